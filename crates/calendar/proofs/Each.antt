@@ -1,0 +1,28 @@
+-- A test that antt computes at each number below a bound, and what it says at one of them.
+use mathlib.Core.Bool.{Bool, true, false, _&&_}
+use mathlib.Core.Path.{subst}
+use Prim.Native.Nat.{ℕ, zero, suc, _<_}
+use native.Mathlib.Decide.{decLt}
+use native.Mathlib.Omega.{arith}
+use lib.Dec.{T}
+
+abbrev pub each : (ℕ → Bool) → ℕ → Bool
+each f zero = true
+each f (suc n) = f n && each f n
+
+pub T-both : (a b : Bool) → T (a && b) → T a × T b
+T-both true b t = (tt, t)
+T-both false b t = absurd t
+
+pub below : (f : ℕ → Bool) (n : ℕ) → T (each f n) → (k : ℕ) → k < n → T (f k)
+below f zero t k h = absurd (omega arith)
+below f (suc n) t k h =
+    elim (decLt k n) [
+      | yes g ↦ below f n (T-both (f n) (each f n) t .1) k g
+      | no g ↦ subst (λ (j : ℕ). T (f j)) (omega arith) (T-both (f n) (each f n) t .0)
+    ]
+
+-- the same for a test of leap and of common years
+pub of-both : (f : Bool → ℕ → Bool) (n : ℕ) → T (each (λ k. f true k && f false k) n) → (b : Bool) (k : ℕ) → k < n → T (f b k)
+of-both f n t true k h = T-both (f true k) (f false k) (below (λ k. f true k && f false k) n t k h) .0
+of-both f n t false k h = T-both (f true k) (f false k) (below (λ k. f true k && f false k) n t k h) .1

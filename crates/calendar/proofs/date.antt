@@ -1,0 +1,4 @@
+mod Months
+mod Dates
+pub mod Laws
+pub mod Known

@@ -1,0 +1,97 @@
+-- Months: their tables, and the one month that holds a day of a year.
+use mathlib.Core.Bool.{Bool, true, false, _&&_, cond}
+use mathlib.Core.List.{List, [], _∷_}
+use mathlib.Core.Path.{_≡_, refl}
+use Prim.Native.Nat.{ℕ, zero, suc, pred, _+_, _/_, _≤_, _<_}
+use native.Mathlib.Nat.{le-add-right}
+use native.Mathlib.Omega.{arith}
+use lib.Dec.{T, leb, ltb, eqb, leb→le, ltb→lt, eqb→eq}
+use lib.ListN.{getD}
+use Rattle.calendar.proofs.Counting.{rises, one-place}
+use Rattle.calendar.proofs.Each.{of-both, below, T-both}
+use Rattle.calendar.specs.Date.{monthLength, daysOfMonths, MonthOf}
+
+-- the days of a common year before each month, as the code's table has them
+abbrev pub daysBefore : List ℕ
+daysBefore = 0 ∷ 31 ∷ 59 ∷ 90 ∷ 120 ∷ 151 ∷ 181 ∷ 212 ∷ 243 ∷ 273 ∷ 304 ∷ 334 ∷ []
+
+before-test : Bool → ℕ → Bool
+before-test b k = eqb (getD daysBefore k 0 + cond (b && ltb 1 k) 1 0) (daysOfMonths b k)
+
+pub before-counted : (b : Bool) (k : ℕ) → k < 12 → getD daysBefore k 0 + cond (b && ltb 1 k) 1 0 ≡ daysOfMonths b k
+unfolding before-test daysOfMonths
+before-counted b k h = eqb→eq _ _ (of-both before-test 12 tt b k h)
+
+some-test : Bool → ℕ → Bool
+some-test b k = leb 1 (monthLength b (suc k))
+
+pub month-has-days : (b : Bool) (m : ℕ) → m < 12 → 1 ≤ monthLength b (suc m)
+unfolding some-test
+month-has-days b m h = leb→le _ _ (of-both some-test 12 tt b m h)
+
+-- the days of a year are those of its months
+pub year-days : (b : Bool) → daysOfMonths b 12 ≡ cond b 366 365
+unfolding daysOfMonths
+year-days true = refl
+year-days false = refl
+
+pub month-up : (b : Bool) (m : ℕ) → 1 ≤ m → daysOfMonths b m ≡ daysOfMonths b (pred m) + monthLength b m
+unfolding daysOfMonths
+month-up b zero h = absurd (omega arith)
+month-up b (suc m) h = refl
+
+grows : (b : Bool) (m : ℕ) → daysOfMonths b m ≤ daysOfMonths b (suc m)
+unfolding daysOfMonths
+grows b m = le-add-right _ _
+
+pub months-rise : (b : Bool) (m n : ℕ) → m ≤ n → daysOfMonths b m ≤ daysOfMonths b n
+months-rise b = rises (daysOfMonths b) (grows b)
+
+pub months-small : (b : Bool) (m : ℕ) → m ≤ 12 → daysOfMonths b m ≤ 366
+months-small true m h = omega (arith, months-rise true m 12 h, year-days true)
+months-small false m h = omega (arith, months-rise false m 12 h, year-days false)
+
+-- a day lies in one month only
+pub one-month : (b : Bool) (k m n : ℕ) → MonthOf b k m → MonthOf b k n → m ≡ n
+one-month b k m n h g =
+    let p : suc (pred m) ≡ m = omega arith in
+    let q : suc (pred n) ≡ n = omega arith in
+    omega (arith, one-place (daysOfMonths b) (grows b) (pred m) (pred n) k (h .from) (rw p (h .to)) (g .from) (rw q (g .to)))
+
+-- the estimate of a day's month by months of 32 days is that month or the one before
+estimate-test : Bool → ℕ → Bool
+estimate-test b k = leb (daysOfMonths b (k / 32)) k && ltb k (daysOfMonths b (k / 32 + 2))
+
+estimate-tested : (b : Bool) (k : ℕ) → k < daysOfMonths b 12 → T (estimate-test b k)
+unfolding estimate-test daysOfMonths
+estimate-tested true k h = below (estimate-test true) 366 tt k h
+estimate-tested false k h = below (estimate-test false) 365 tt k h
+
+pub month-estimated : (b : Bool) (k : ℕ) → k < daysOfMonths b 12 → (daysOfMonths b (k / 32) ≤ k) × (k < daysOfMonths b (k / 32 + 2))
+unfolding estimate-test
+month-estimated b k h =
+    let t = T-both (leb (daysOfMonths b (k / 32)) k) (ltb k (daysOfMonths b (k / 32 + 2))) (estimate-tested b k h) in
+    (leb→le _ _ (t .0), ltb→lt _ _ (t .1))
+
+-- the month behind q whole months, and the one correction of the estimate
+month-is : (b : Bool) (k q : ℕ) → q < 12 → daysOfMonths b q ≤ k → k < daysOfMonths b (q + 1) → MonthOf b k (q + 1)
+month-is b k q h from to =
+    let e : pred (q + 1) ≡ q = omega arith in
+    record { low = omega arith; high = omega arith; from = rw e from; to = to }
+
+module _ (b : Bool) (k : ℕ) (h : k < daysOfMonths b 12) where
+  pub last-month : k / 32 + 1 ≡ 12 → MonthOf b k 12
+  last-month e =
+      let q : k / 32 ≡ 11 = omega arith in
+      month-is b k 11 (omega arith) (rw q at (month-estimated b k h .0)) h
+
+  pub this-month : k / 32 + 1 < 12 → k < daysOfMonths b (pred (k / 32 + 1 + 1)) → MonthOf b k (k / 32 + 1)
+  this-month l g =
+      let e : pred (k / 32 + 1 + 1) ≡ k / 32 + 1 = omega arith in
+      month-is b k (k / 32) (omega arith) (month-estimated b k h .0) (rw e at g)
+
+  pub next-month : k / 32 + 1 < 12 → daysOfMonths b (pred (k / 32 + 1 + 1)) ≤ k → MonthOf b k (k / 32 + 1 + 1)
+  next-month l g =
+      let e : pred (k / 32 + 1 + 1) ≡ k / 32 + 1 = omega arith in
+      let two : k / 32 + 2 ≡ k / 32 + 1 + 1 = omega arith in
+      month-is b k (k / 32 + 1) l (rw e at g) (rw two at (month-estimated b k h .1))

@@ -1,0 +1,42 @@
+use Prim.Native.Nat.{_+_, _/_, _<_}
+use native.Mathlib.Omega.{arith}
+use borrow.Author.Needs.{needs}
+use Rattle.calendar.proofs.date.Months.{months-small, last-month, this-month, next-month}
+use Rattle.calendar.proofs.date.month_at.Statement.{statement}
+use Rattle.calendar.proofs.date.month_at.Tie as tie
+
+add-estimate : tie.Need-add-estimate
+add-estimate c = search needs
+
+returns : tie.Need-returns
+returns c = last-month _ _ (c .before .pre) (c .if1 .taken)
+
+add-days-before : tie.Need-add-days-before
+add-days-before c = search needs
+
+before-last : (c : tie.Else1) → c .before .args .k / 32 + 1 < 12
+before-last c = omega (arith, c .before .pre, c .if1 .left, months-small (c .before .args .leap-year) 12 (omega arith))
+
+days-before-requires : tie.Need-days-before-requires
+days-before-requires c κs = omega (arith, before-last c)
+
+add-result : tie.Need-add-result
+add-result c = search needs
+
+returns-2 : tie.Need-returns-2
+returns-2 c = next-month _ _ (c .before .before .before .pre) (before-last (c .before .before)) (rw (← c .before .days-before .ensures) (c .if2 .taken))
+
+returns-3 : tie.Need-returns-3
+returns-3 c = this-month _ _ (c .before .before .before .pre) (before-last (c .before .before)) (rw (← c .before .days-before .ensures) (c .if2 .left))
+
+pub month-at-spec : {M : Type 1} → statement M
+month-at-spec =
+    tie.close
+    (tie.spec
+    add-estimate
+    returns
+    add-days-before
+    days-before-requires
+    add-result
+    returns-2
+    returns-3)

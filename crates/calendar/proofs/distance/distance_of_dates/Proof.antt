@@ -1,0 +1,67 @@
+use mathlib.Core.Path.{_≡_, sym, _∙_}
+use mir.Facts.{toZ-ofZ}
+use borrow.Author.Needs.{needs}
+use Rattle.calendar.proofs.date.Laws.{day-of-date-small}
+use Rattle.calendar.proofs.distance.Laws.{distance-fits}
+use Rattle.calendar.specs.Date.{dayOfDate}
+use Rattle.calendar.specs.declared.span.DayAnswer.the-variants.{Day}
+use Rattle.calendar.proofs.distance.distance_of_dates.Statement.{statement}
+use Rattle.calendar.proofs.distance.distance_of_dates.Tie as tie
+
+day-of-date-requires : tie.Need-day-of-date-requires
+day-of-date-requires c κs = search needs
+
+enum-known-day : tie.Need-enum-known-day
+enum-known-day c = search needs
+
+enum-known-refusal : tie.Need-enum-known-refusal
+enum-known-refusal c = search needs
+
+returns : tie.Need-returns
+returns c = rw (← c .before .before .before .day-of-date .ensures, c .before .refusal .given .1)
+
+day-of-date-requires-2 : tie.Need-day-of-date-requires-2
+day-of-date-requires-2 c κs = search needs
+
+enum-known-day-2 : tie.Need-enum-known-day-2
+enum-known-day-2 c = search needs
+
+enum-known-refusal-2 : tie.Need-enum-known-refusal-2
+enum-known-refusal-2 c = search needs
+
+first-day : (c : tie.After-day) → dayOfDate (c .before .before .before .args .style1) (c .before .before .before .args .year1) (c .before .before .before .args .month1) (c .before .before .before .args .day1) ≡ Day (c .day .given .0 .0)
+first-day c = sym (c .before .before .day-of-date .ensures) ∙ c .day .given .1
+
+second-day : (c : tie.After-day2) → dayOfDate (c .before .before .before .before .before .before .before .args .style2) (c .before .before .before .before .before .before .before .args .year2) (c .before .before .before .before .before .before .before .args .month2) (c .before .before .before .before .before .before .before .args .day2) ≡ Day (c .day2 .given .0 .0)
+second-day c = sym (c .before .before .day-of-date2 .ensures) ∙ c .day2 .given .1
+
+returns-2 : tie.Need-returns-2
+returns-2 c = rw (first-day (c .before .before .before .before .before), ← c .before .before .before .day-of-date2 .ensures, c .before .refusal2 .given .1)
+
+days-between-requires : tie.Need-days-between-requires
+days-between-requires c κs = (day-of-date-small _ _ _ _ _ (first-day (c .before .before .before .before .before)) .1, day-of-date-small _ _ _ _ _ (second-day (c .before)) .1)
+
+returns-3 : tie.Need-returns-3
+returns-3 c =
+    let small = days-between-requires (c .before) _ in
+    rw (
+      first-day (c .before .before .before .before .before .before),
+      second-day (c .before .before),
+      c .days-between .ensures,
+      toZ-ofZ (distance-fits _ _ (small .0) (small .1)),
+    )
+
+pub distance-of-dates-spec : {M : Type 1} → statement M
+distance-of-dates-spec =
+    tie.close
+    (tie.spec
+    day-of-date-requires
+    enum-known-day
+    enum-known-refusal
+    returns
+    day-of-date-requires-2
+    enum-known-day-2
+    enum-known-refusal-2
+    returns-2
+    days-between-requires
+    returns-3)

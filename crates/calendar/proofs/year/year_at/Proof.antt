@@ -1,0 +1,26 @@
+use borrow.Author.Needs.{needs}
+use Rattle.calendar.proofs.year.Laws.{this-year, next-year}
+use Rattle.calendar.proofs.year.year_at.Statement.{statement}
+use Rattle.calendar.proofs.year.year_at.Tie as tie
+
+year-estimate-requires : tie.Need-year-estimate-requires
+year-estimate-requires c κs = search needs
+
+add-t5 : tie.Need-add-t5
+add-t5 c = search needs
+
+new-year-requires : tie.Need-new-year-requires
+new-year-requires c κs = search needs
+
+add-result : tie.Need-add-result
+add-result c = search needs
+
+returns : tie.Need-returns
+returns c = next-year _ _ _ (rw (← c .before .new-year .ensures) (c .if1 .taken)) (c .before .before .year-estimate .ensures .3)
+
+returns-2 : tie.Need-returns-2
+returns-2 c = this-year _ _ _ (c .before .before .year-estimate .ensures .0) (c .before .before .year-estimate .ensures .2) (rw (← c .before .new-year .ensures) (c .if1 .left))
+
+pub year-at-spec : {M : Type 1} → statement M
+year-at-spec =
+    tie.close (tie.spec year-estimate-requires add-t5 new-year-requires add-result returns returns-2)

@@ -1,0 +1,74 @@
+-- Dates and their days.
+use mathlib.Core.Bool.{Bool, false, _&&_, cond}
+use mathlib.Core.List.{List, [], _∷_}
+use mathlib.Core.Path.{_≡_}
+use Prim.Native.Nat.{ℕ, zero, suc, pred, _+_, _≤_, _<_}
+use lib.Dec.{ltb, eqb}
+use lib.ListN.{getD}
+use Rattle.calendar.specs.Range.{between}
+use Rattle.calendar.specs.Refusal.{unless}
+use Rattle.calendar.specs.Span.{inSpan, within}
+use Rattle.calendar.specs.Style.{styleOf, inStyle}
+use Rattle.calendar.specs.Year.{named, leap, newYear, served}
+use Rattle.calendar.specs.declared.date.DateAnswer.the-variants.{On, NoDate}
+use Rattle.calendar.specs.declared.date.DateAnswer.{DateAnswer}
+use Rattle.calendar.specs.declared.refusal.Refusal.the-variants.{Year, Date, Span}
+use Rattle.calendar.specs.declared.span.DayAnswer.the-variants.{Day, NoDay}
+use Rattle.calendar.specs.declared.span.DayAnswer.{DayAnswer}
+use Rattle.calendar.specs.declared.style.Style.{Style}
+use Rattle.calendar.specs.declared.year.NamedYear.{NamedYear}
+
+-- the lengths of a common year's months
+abbrev pub monthLengths : List ℕ
+monthLengths = 31 ∷ 28 ∷ 31 ∷ 30 ∷ 31 ∷ 30 ∷ 31 ∷ 31 ∷ 30 ∷ 31 ∷ 30 ∷ 31 ∷ []
+
+-- the days of a month of a leap or a common year: "The leap day is 29 February."
+abbrev pub monthLength : Bool → ℕ → ℕ
+monthLength b m = cond (eqb m 2 && b) 29 (getD monthLengths (pred m) 0)
+
+-- the days of the months 1 to n
+unfoldable pub daysOfMonths : Bool → ℕ → ℕ
+daysOfMonths b zero = 0
+daysOfMonths b (suc n) = daysOfMonths b n + monthLength b (suc n)
+
+-- the month m holds the day k of a year, counted from 0
+pub record MonthOf (b : Bool) (k m : ℕ) : Type 0 where
+  pub low : 1 ≤ m
+  pub high : m ≤ 12
+  pub from : daysOfMonths b (pred m) ≤ k
+  pub to : k < daysOfMonths b m
+
+-- "no such month, or no such day in that month of that year"
+unfoldable pub isDate : Style → ℕ → ℕ → ℕ → Bool
+isDate s y m d = between 1 m 12 && between 1 d (monthLength (leap s y) m)
+
+-- the day of a date: 1 January, and the months and the days of the month before it
+unfoldable pub dayNumber : Style → ℕ → ℕ → ℕ → ℕ
+dayNumber s y m d = newYear s y + daysOfMonths (leap s y) (pred m) + pred d
+
+-- the day of a date of a named year, refused by 4, 5 or 6
+unfoldable pub dayOf : NamedYear → ℕ → ℕ → DayAnswer
+dayOf y m d =
+    unless (served (y .style) (y .year)) (NoDay Year)
+    (unless (isDate (y .style) (y .year) m d) (NoDay Date)
+    (within (y .style) (dayNumber (y .style) (y .year) m d)))
+
+-- date to day: refused by 1, and else as in the style
+abbrev pub dayOfDate : ℕ → ℕ → ℕ → ℕ → DayAnswer
+dayOfDate k y m d = inStyle NoDay (λ s. dayOf (named s y) m d) (styleOf k)
+
+-- what the date of a day may be: the date whose day it is, or 6 outside the span
+abbrev pub IsDateOf : Style → ℕ → DateAnswer → Type 0
+IsDateOf s n (On y m d) = dayOf (named s y) m d ≡ Day n
+IsDateOf s n (NoDate x) = (inSpan s n ≡ false) × (x ≡ Span)
+
+-- day to date: refused by 1, and else as in the style
+abbrev pub IsDateOfDay : ℕ → ℕ → DateAnswer → Type 0
+IsDateOfDay k n r = inStyle (λ x. r ≡ NoDate x) (λ s. IsDateOf s n r) (styleOf k)
+
+-- the next date of the calendar: the next day of the month, or the first of the next month, or of the next year
+abbrev pub nextDate : Style → ℕ → ℕ → ℕ → DateAnswer
+nextDate s y m d =
+    cond (ltb d (monthLength (leap s y) m)) (On y m (d + 1))
+    (cond (ltb m 12) (On y (m + 1) 1)
+    (On (y + 1) 1 1))

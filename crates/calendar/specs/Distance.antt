@@ -1,0 +1,17 @@
+-- Signed distances.
+use Prim.Native.Nat.{ℕ}
+use lib.IntN.{ℤ, pos, _-ℤ_}
+use Rattle.calendar.specs.declared.distance.DistanceAnswer.the-variants.{Days, NoDistance}
+use Rattle.calendar.specs.declared.distance.DistanceAnswer.{DistanceAnswer}
+use Rattle.calendar.specs.declared.span.DayAnswer.the-variants.{Day, NoDay}
+use Rattle.calendar.specs.declared.span.DayAnswer.{DayAnswer}
+
+-- "The signed distance is the second day number less the first"
+abbrev pub distance : ℕ → ℕ → ℤ
+distance a b = pos b -ℤ pos a
+
+-- "If both dates of a distance are bad, the first date's refusal is given"
+abbrev pub distanceOf : DayAnswer → DayAnswer → DistanceAnswer
+distanceOf (Day a) (Day b) = Days (distance a b)
+distanceOf (Day a) (NoDay x) = NoDistance x
+distanceOf (NoDay x) q = NoDistance x

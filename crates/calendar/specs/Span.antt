@@ -1,0 +1,26 @@
+-- The days that a style may name.
+use mathlib.Core.Bool.{Bool}
+use Prim.Native.Nat.{ℕ}
+use Rattle.calendar.specs.Range.{between}
+use Rattle.calendar.specs.Refusal.{unless}
+use Rattle.calendar.specs.declared.refusal.Refusal.the-variants.{Span}
+use Rattle.calendar.specs.declared.span.DayAnswer.the-variants.{Day, NoDay}
+use Rattle.calendar.specs.declared.span.DayAnswer.{DayAnswer}
+use Rattle.calendar.specs.declared.style.Style.the-variants.{Julian, Gregorian}
+use Rattle.calendar.specs.declared.style.Style.{Style}
+
+-- "These are the style's span": its first and its last day
+abbrev pub firstDay : Style → ℕ
+firstDay Julian = 1721424
+firstDay Gregorian = 2299161
+
+abbrev pub lastDay : Style → ℕ
+lastDay Julian = 5373557
+lastDay Gregorian = 5373484
+
+unfoldable pub inSpan : Style → ℕ → Bool
+inSpan s n = between (firstDay s) n (lastDay s)
+
+-- "a day outside the style's span" is refused, any other is the answer
+unfoldable pub within : Style → ℕ → DayAnswer
+within s n = unless (inSpan s n) (NoDay Span) (Day n)

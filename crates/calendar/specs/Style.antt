@@ -1,0 +1,33 @@
+-- The two styles.
+use mathlib.Core.Bool.{cond}
+use Prim.Native.Nat.{ℕ}
+use lib.Dec.{eqb}
+use Rattle.calendar.specs.declared.refusal.Refusal.the-variants.{Name}
+use Rattle.calendar.specs.declared.refusal.Refusal.{Refusal}
+use Rattle.calendar.specs.declared.style.Style.the-variants.{Julian, Gregorian}
+use Rattle.calendar.specs.declared.style.Style.{Style}
+use Rattle.calendar.specs.declared.style.StyleAnswer.the-variants.{Known, NoStyle}
+use Rattle.calendar.specs.declared.style.StyleAnswer.{StyleAnswer}
+
+-- "J (Julian, number 1) and G (Gregorian, number 2)"
+abbrev pub styleNumber : Style → ℕ
+styleNumber Julian = 1
+styleNumber Gregorian = 2
+
+-- the letter's byte: J is 74 and G is 71
+abbrev pub styleLetter : Style → ℕ
+styleLetter Julian = 74
+styleLetter Gregorian = 71
+
+-- "a style .. number given to a public call is not in its list"
+unfoldable pub styleOf : ℕ → StyleAnswer
+styleOf n =
+    cond (eqb n (styleNumber Julian)) (Known Julian)
+    (cond (eqb n (styleNumber Gregorian)) (Known Gregorian)
+    (NoStyle Name))
+
+-- a call that is given a style's number: refused where that names no style, and else the call in the style
+module _ {ℓ} {A : Type ℓ} where
+  abbrev pub inStyle : (Refusal → A) → (Style → A) → StyleAnswer → A
+  inStyle refused call (Known s) = call s
+  inStyle refused call (NoStyle x) = refused x

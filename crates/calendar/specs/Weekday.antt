@@ -1,0 +1,21 @@
+-- Weekdays.
+use Prim.Native.Nat.{ℕ, _+_, _%_}
+use Rattle.calendar.specs.Refusal.{unless}
+use Rattle.calendar.specs.Span.{inSpan}
+use Rattle.calendar.specs.Style.{styleOf, inStyle}
+use Rattle.calendar.specs.declared.refusal.Refusal.the-variants.{Span}
+use Rattle.calendar.specs.declared.style.Style.{Style}
+use Rattle.calendar.specs.declared.weekday.WeekdayAnswer.the-variants.{Weekday, NoWeekday}
+use Rattle.calendar.specs.declared.weekday.WeekdayAnswer.{WeekdayAnswer}
+
+-- "1 Monday to 7 Sunday, as in ISO 8601: the day number's remainder by 7, plus 1"
+abbrev pub weekday : ℕ → ℕ
+weekday n = n % 7 + 1
+
+-- "The call takes a style and a day of that style's span.": refused by 6
+abbrev pub weekdayOf : Style → ℕ → WeekdayAnswer
+weekdayOf s n = unless (inSpan s n) (NoWeekday Span) (Weekday (weekday n))
+
+-- weekday: refused by 1, and else as in the style
+abbrev pub weekdayOfDay : ℕ → ℕ → WeekdayAnswer
+weekdayOfDay k n = inStyle NoWeekday (λ s. weekdayOf s n) (styleOf k)

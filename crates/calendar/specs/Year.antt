@@ -1,0 +1,52 @@
+-- The years of the two styles, for all years from 1 on; which of them are served is a test of its own.
+use mathlib.Core.Bool.{Bool, _&&_, _||_, not, cond}
+use Prim.Native.Nat.{ℕ, zero, suc, pred, _+_, _%_, _≤_, _<_}
+use lib.Dec.{eqb}
+use Rattle.calendar.specs.Range.{between}
+use Rattle.calendar.specs.declared.style.Style.the-variants.{Julian, Gregorian}
+use Rattle.calendar.specs.declared.style.Style.{Style}
+use Rattle.calendar.specs.declared.year.NamedYear.{NamedYear}
+
+-- the record that holds a style and a year
+abbrev pub named : Style → ℕ → NamedYear
+named s y = record { style = s; year = y }
+
+-- k divides y
+abbrev pub divides : ℕ → ℕ → Bool
+divides k y = eqb (y % k) 0
+
+-- "A J year is leap when 4 divides it. A G year is leap when 4 divides it and 100 doesn't, or 400 does."
+abbrev pub leap : Style → ℕ → Bool
+leap Julian y = divides 4 y
+leap Gregorian y = divides 4 y && not (divides 100 y) || divides 400 y
+
+abbrev pub yearLength : Style → ℕ → ℕ
+yearLength s y = cond (leap s y) 366 365
+
+-- the days of the years 1 to n
+unfoldable pub daysOfYears : Style → ℕ → ℕ
+daysOfYears s zero = 0
+daysOfYears s (suc n) = daysOfYears s n + yearLength s (suc n)
+
+-- the day number of 1 January 1; in G the rule run backwards
+abbrev pub firstNewYear : Style → ℕ
+firstNewYear Julian = 1721424
+firstNewYear Gregorian = 1721426
+
+-- the day number of 1 January of a year from 1 on
+unfoldable pub newYear : Style → ℕ → ℕ
+newYear s y = firstNewYear s + daysOfYears s (pred y)
+
+-- the year y holds the day n
+pub record YearOf (s : Style) (n y : ℕ) : Type 0 where
+  pub one : 1 ≤ y
+  pub from : newYear s y ≤ n
+  pub to : n < newYear s (suc y)
+
+-- "J outside 1 to 9999; G outside 1582 to 9999"
+abbrev pub firstYear : Style → ℕ
+firstYear Julian = 1
+firstYear Gregorian = 1582
+
+unfoldable pub served : Style → ℕ → Bool
+served s y = between (firstYear s) y 9999

@@ -1,0 +1,143 @@
+// Dates and their days, each way in a fixed number of steps.
+use crate::range::is_between;
+use crate::refusal::Refusal;
+use crate::span::DayAnswer;
+use crate::span::day_within;
+use crate::span::is_in_span;
+use crate::style::Style;
+use crate::style::StyleAnswer;
+use crate::style::style_of;
+use crate::year::NamedYear;
+use crate::year::is_leap;
+use crate::year::is_served;
+use crate::year::new_year;
+use crate::year::year_at;
+ghost use mathlib.Core.Path.{_≡_};
+ghost use mathlib.Core.Bool.{true};
+ghost use Prim.Native.Nat.{pred, _≤_, _<_};
+ghost use Rattle.calendar.specs.Year.{served};
+ghost use Rattle.calendar.specs.Date.{monthLength, daysOfMonths, MonthOf, isDate, dayNumber, dayOf, dayOfDate, IsDateOf, IsDateOfDay};
+
+pub enum DateAnswer {
+    On { year: u64, month: u64, day: u64 },
+    NoDate(Refusal),
+}
+
+const MONTH_LENGTHS: [u64; 12] = [31, 28, 31, 30, 31, 30, 31, 31, 30, 31, 30, 31];
+
+const DAYS_BEFORE: [u64; 12] = [0, 31, 59, 90, 120, 151, 181, 212, 243, 273, 304, 334];
+
+fn month_length(leap_year: bool, month: u64) -> u64
+    requires { ⌜ (1 ≤ month) × (month ≤ 12) ⌝ }
+    ensures { λ r. ⌜ r ≡ monthLength «leap_year» month ⌝ }
+{
+    if month == 2 {
+        if leap_year {
+            return 29;
+        }
+        return 28;
+    }
+    let i = (month - 1) as usize;
+    MONTH_LENGTHS[i]
+}
+
+// The days of a year before a month.
+fn days_before(leap_year: bool, month: u64) -> u64
+    requires { ⌜ (1 ≤ month) × (month ≤ 12) ⌝ }
+    ensures { λ r. ⌜ r ≡ daysOfMonths «leap_year» (pred month) ⌝ }
+{
+    let i = (month - 1) as usize;
+    let n = DAYS_BEFORE[i];
+    if leap_year {
+        if month > 2 {
+            return n + 1;
+        }
+    }
+    n
+}
+
+// Whether a year has a month and a day of that month.
+fn is_date(named: NamedYear, month: u64, day: u64) -> bool
+    ensures { λ r. ⌜ r ≡ isDate (named .style) (named .year) month day ⌝ }
+{
+    if !is_between(1, month, 12) {
+        return false;
+    }
+    is_between(1, day, month_length(is_leap(named), month))
+}
+
+fn day_number(named: NamedYear, month: u64, day: u64) -> u64
+    requires { ⌜ (served (named .style) (named .year) ≡ true) × (isDate (named .style) (named .year) month day ≡ true) ⌝ }
+    ensures { λ r. ⌜ r ≡ dayNumber (named .style) (named .year) month day ⌝ }
+{
+    new_year(named) + days_before(is_leap(named), month) + (day - 1)
+}
+
+// The day of a date of a named year.
+pub fn day_of(named: NamedYear, month: u64, day: u64) -> DayAnswer
+    ensures { λ r. ⌜ r ≡ dayOf named month day ⌝ }
+{
+    if !is_served(named) {
+        return DayAnswer::NoDay(Refusal::Year);
+    }
+    if !is_date(named, month, day) {
+        return DayAnswer::NoDay(Refusal::Date);
+    }
+    let style = named.style;
+    day_within(style, day_number(named, month, day))
+}
+
+// Date to day: refused by 1, 4, 5 or 6.
+pub fn day_of_date(style: u64, year: u64, month: u64, day: u64) -> DayAnswer
+    ensures { λ r. ⌜ r ≡ dayOfDate style year month day ⌝ }
+{
+    match style_of(style) {
+        StyleAnswer::Known(known) => day_of(NamedYear { style: known, year }, month, day),
+        StyleAnswer::NoStyle(refusal) => DayAnswer::NoDay(refusal),
+    }
+}
+
+// The month that holds the day k of a year, counted from 0.
+fn month_at(leap_year: bool, k: u64) -> u64
+    requires { ⌜ k < daysOfMonths «leap_year» 12 ⌝ }
+    ensures { λ r. ⌜ MonthOf «leap_year» k r ⌝ }
+{
+    let estimate = k / 32 + 1;
+    if estimate == 12 {
+        return 12;
+    }
+    let next = days_before(leap_year, estimate + 1);
+    if next <= k {
+        return estimate + 1;
+    }
+    estimate
+}
+
+// The date of a day of a style.
+pub fn date_of(style: Style, day: u64) -> DateAnswer
+    ensures { λ r. ⌜ IsDateOf style day r ⌝ }
+{
+    if !is_in_span(style, day) {
+        return DateAnswer::NoDate(Refusal::Span);
+    }
+    let year = year_at(style, day);
+    let named = NamedYear { style, year };
+    let k = day - new_year(named);
+    let leap_year = is_leap(named);
+    let month = month_at(leap_year, k);
+    DateAnswer::On {
+        year,
+        month,
+        day: k - days_before(leap_year, month) + 1,
+    }
+}
+
+// Day to date: refused by 1 or 6.
+pub fn date_of_day(style: u64, day: u64) -> DateAnswer
+    ensures { λ r. ⌜ IsDateOfDay style day r ⌝ }
+{
+    match style_of(style) {
+        StyleAnswer::Known(known) => date_of(known, day),
+        StyleAnswer::NoStyle(refusal) => DateAnswer::NoDate(refusal),
+    }
+}

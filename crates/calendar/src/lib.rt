@@ -1,0 +1,11 @@
+// Styles, years, dates, weekdays and distances of the two calendars. No public function has a
+// `requires`, and each contract is an equation with a definition of specs/, or a relation that
+// allows one answer only.
+pub mod date;
+pub mod distance;
+mod range;
+pub mod refusal;
+pub mod span;
+pub mod style;
+pub mod weekday;
+pub mod year;

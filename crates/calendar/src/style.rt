@@ -1,0 +1,37 @@
+// The two styles of dating.
+use crate::refusal::Refusal;
+ghost use mathlib.Core.Path.{_≡_};
+ghost use Rattle.calendar.specs.Style.{styleLetter, styleOf};
+
+pub enum Style {
+    Julian,
+    Gregorian,
+}
+
+pub enum StyleAnswer {
+    Known(Style),
+    NoStyle(Refusal),
+}
+
+// The style that has a number: the one place where a caller's number becomes a style.
+pub fn style_of(number: u64) -> StyleAnswer
+    ensures { λ r. ⌜ r ≡ styleOf number ⌝ }
+{
+    if number == 1 {
+        return StyleAnswer::Known(Style::Julian);
+    }
+    if number == 2 {
+        return StyleAnswer::Known(Style::Gregorian);
+    }
+    StyleAnswer::NoStyle(Refusal::Name)
+}
+
+// The byte of a style's letter.
+pub fn style_letter(style: Style) -> u8
+    ensures { λ r. ⌜ r ≡ styleLetter style ⌝ }
+{
+    match style {
+        Style::Julian => b'J',
+        Style::Gregorian => b'G',
+    }
+}
