@@ -22,7 +22,7 @@ use Rattle.calendar.specs.declared.year.NamedYear.{NamedYear}
 abbrev pub monthLengths : List ℕ
 monthLengths = 31 ∷ 28 ∷ 31 ∷ 30 ∷ 31 ∷ 30 ∷ 31 ∷ 31 ∷ 30 ∷ 31 ∷ 30 ∷ 31 ∷ []
 
--- the days of a month of a leap or a common year: "The leap day is 29 February."
+-- the days of a month from 1 to 12, of a leap or a common year: "The leap day is 29 February."
 abbrev pub monthLength : Bool → ℕ → ℕ
 monthLength b m = cond (eqb m 2 && b) 29 (getD monthLengths (pred m) 0)
 
@@ -38,7 +38,7 @@ pub record MonthOf (b : Bool) (k m : ℕ) : Type 0 where
   pub from : daysOfMonths b (pred m) ≤ k
   pub to : k < daysOfMonths b m
 
--- "no such month, or no such day in that month of that year"
+-- refusal 5: "no such month, or no such day in that month of that year"
 unfoldable pub isDate : Style → ℕ → ℕ → ℕ → Bool
 isDate s y m d = between 1 m 12 && between 1 d (monthLength (leap s y) m)
 

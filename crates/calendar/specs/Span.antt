@@ -9,18 +9,20 @@ use Rattle.calendar.specs.declared.span.DayAnswer.{DayAnswer}
 use Rattle.calendar.specs.declared.style.Style.the-variants.{Julian, Gregorian}
 use Rattle.calendar.specs.declared.style.Style.{Style}
 
--- "These are the style's span": its first and its last day
+-- "First day"
 abbrev pub firstDay : Style → ℕ
 firstDay Julian = 1721424
 firstDay Gregorian = 2299161
 
+-- "Last day (31 December 9999)"
 abbrev pub lastDay : Style → ℕ
 lastDay Julian = 5373557
 lastDay Gregorian = 5373484
 
+-- "These are the style's span."
 unfoldable pub inSpan : Style → ℕ → Bool
 inSpan s n = between (firstDay s) n (lastDay s)
 
--- "a day outside the style's span" is refused, any other is the answer
+-- refusal 6: "a day outside the style's span"; any other day is the answer
 unfoldable pub within : Style → ℕ → DayAnswer
 within s n = unless (inSpan s n) (NoDay Span) (Day n)

@@ -1,5 +1,6 @@
 -- The two styles.
 use mathlib.Core.Bool.{cond}
+use Prim.Native.Char.{code}
 use Prim.Native.Nat.{ℕ}
 use lib.Dec.{eqb}
 use Rattle.calendar.specs.declared.refusal.Refusal.the-variants.{Name}
@@ -14,12 +15,12 @@ abbrev pub styleNumber : Style → ℕ
 styleNumber Julian = 1
 styleNumber Gregorian = 2
 
--- the letter's byte: J is 74 and G is 71
+-- the byte of the style's letter
 abbrev pub styleLetter : Style → ℕ
-styleLetter Julian = 74
-styleLetter Gregorian = 71
+styleLetter Julian = code "J"
+styleLetter Gregorian = code "G"
 
--- "a style .. number given to a public call is not in its list"
+-- refusal 1: "a style .. number given to a public call is not in its list"
 unfoldable pub styleOf : ℕ → StyleAnswer
 styleOf n =
     cond (eqb n (styleNumber Julian)) (Known Julian)

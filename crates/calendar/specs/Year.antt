@@ -20,6 +20,7 @@ abbrev pub leap : Style → ℕ → Bool
 leap Julian y = divides 4 y
 leap Gregorian y = divides 4 y && not (divides 100 y) || divides 400 y
 
+-- a leap year has one day more, "29 February"
 abbrev pub yearLength : Style → ℕ → ℕ
 yearLength s y = cond (leap s y) 366 365
 
@@ -28,7 +29,7 @@ unfoldable pub daysOfYears : Style → ℕ → ℕ
 daysOfYears s zero = 0
 daysOfYears s (suc n) = daysOfYears s n + yearLength s (suc n)
 
--- the day number of 1 January 1; in G the rule run backwards
+-- the day number of 1 January 1: "1 January 1 J is 1721424"; in G the rule run backwards from 15 October 1582
 abbrev pub firstNewYear : Style → ℕ
 firstNewYear Julian = 1721424
 firstNewYear Gregorian = 1721426
@@ -43,10 +44,11 @@ pub record YearOf (s : Style) (n y : ℕ) : Type 0 where
   pub from : newYear s y ≤ n
   pub to : n < newYear s (suc y)
 
--- "J outside 1 to 9999; G outside 1582 to 9999"
+-- the first year that is served
 abbrev pub firstYear : Style → ℕ
 firstYear Julian = 1
 firstYear Gregorian = 1582
 
+-- refusal 4: "J outside 1 to 9999; G outside 1582 to 9999"
 unfoldable pub served : Style → ℕ → Bool
 served s y = between (firstYear s) y 9999

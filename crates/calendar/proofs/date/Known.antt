@@ -24,6 +24,7 @@ table =
     ∷ row 31 12 9999 Gregorian (Day 5373484)
     ∷ row 5 10 1582 Julian (Day 2299161)
     ∷ row 29 2 1900 Julian (Day 2415092)
+    ∷ row 5 10 1582 Gregorian (NoDay Span)
     ∷ row 14 10 1582 Gregorian (NoDay Span)
     ∷ row 29 2 1582 Gregorian (NoDay Date)
     ∷ row 31 12 1581 Gregorian (NoDay Year)

@@ -1,14 +1,14 @@
 -- `days_cases::unsigned` is safe and ends: a number that is not below 0 can be cast.
 -- Assumes nothing.
-use mathlib.Core.Path.{_≡_}
 use mathlib.Core.Bool.{false, true≢false}
-use borrow.Author.Needs.{needs}
+use mathlib.Core.Path.{_≡_}
 use lib.Dec.{T}
 use lib.IntN.{ℤ, pos, negsuc}
 use lib.Signed.{ltZ, nonNeg}
+use mir.Facts.{fits-natAbs, sfits-toZ, fits-ofZ}
 use mir.Syntax.{w32, w64}
 use mir.Val.{toZ, ofZ}
-use mir.Facts.{fits-natAbs, sfits-toZ, fits-ofZ}
+use borrow.Author.Needs.{needs}
 use Rattle.days_cases.proofs.unsigned.Statement.{statement}
 use Rattle.days_cases.proofs.unsigned.Tie as tie
 
@@ -19,11 +19,5 @@ not-negative (negsuc n) e = absurd (true≢false e)
 cast-result : tie.Need-cast-result
 cast-result c = (not-negative (toZ w32 (ofZ w32 (c .before .args .n))) (c .if1 .left), fits-natAbs {w = w32} {w′ = w64} tt (sfits-toZ (fits-ofZ (c .before .fits .n))))
 
-returns : tie.Need-returns
-returns c = search needs
-
-returns-2 : tie.Need-returns-2
-returns-2 c = search needs
-
 pub unsigned-spec : {M : Type 1} → statement M
-unsigned-spec = tie.close (tie.spec returns cast-result returns-2)
+unsigned-spec = tie.close (tie.spec (λ c. search needs) cast-result (λ c. search needs))

@@ -1,8 +1,8 @@
 -- `days_survey::survey` is safe and ends: the days that are left grow fewer.
 -- Assumes nothing.
 use Prim.Native.Nat.{_-_}
-use borrow.Author.Needs.{needs}
 use native.Mathlib.Omega.{arith}
+use borrow.Author.Needs.{needs}
 use Rattle.days_survey.proofs.survey.Statement.{statement}
 use Rattle.days_survey.proofs.survey.Tie as tie
 
@@ -14,9 +14,6 @@ abbrev μ-loop : tie.MeasureT-loop
 
 loop-holds : tie.Need-loop-holds Inv-loop μ-loop
 loop-holds c = tt
-
-with-day-requires : tie.Need-with-day-requires Inv-loop μ-loop
-with-day-requires c κs = search needs
 
 add-number : tie.Need-add-number Inv-loop μ-loop
 add-number c = omega arith
@@ -34,4 +31,4 @@ returns-2 : tie.Need-returns-2 Inv-loop μ-loop
 returns-2 c = tt
 
 pub survey-spec : {M : Type 1} → statement M
-survey-spec = tie.close (tie.spec Inv-loop μ-loop loop-holds with-day-requires add-number loop-less loop-again returns returns-2)
+survey-spec = tie.close (tie.spec Inv-loop μ-loop loop-holds (λ c κs. search needs) add-number loop-less loop-again returns returns-2)

@@ -15,9 +15,6 @@ bounds c = date-bounds _ _ _ _ (c .pre .1)
 new-year-requires : tie.Need-new-year-requires
 new-year-requires c κs = omega (arith, served-small _ _ (c .pre .0))
 
-is-leap-requires : tie.Need-is-leap-requires
-is-leap-requires c κs = search needs
-
 days-before-requires : tie.Need-days-before-requires
 days-before-requires c κs = omega (arith, bounds (c .before .before))
 
@@ -47,7 +44,7 @@ day-number-spec =
     tie.close
     (tie.spec
     new-year-requires
-    is-leap-requires
+    (λ c κs. search needs)
     days-before-requires
     add-result
     sub-result

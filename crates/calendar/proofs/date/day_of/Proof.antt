@@ -7,15 +7,9 @@ use Rattle.calendar.specs.Year.{served}
 use Rattle.calendar.proofs.date.day_of.Statement.{statement}
 use Rattle.calendar.proofs.date.day_of.Tie as tie
 
-is-served-requires : tie.Need-is-served-requires
-is-served-requires c κs = search needs
-
 returns : tie.Need-returns
 unfolding dayOf
 returns c = rw (sym (c .before .is-served .ensures) ∙ not-true _ (c .if1 .taken))
-
-is-date-requires : tie.Need-is-date-requires
-is-date-requires c κs = search needs
 
 year-is : (c : tie.Else1) → served (c .before .before .args .named .style) (c .before .before .args .named .year) ≡ true
 year-is c = sym (c .before .is-served .ensures) ∙ not-false _ (c .if1 .left)
@@ -30,9 +24,6 @@ date-is c = sym (c .before .is-date .ensures) ∙ not-false _ (c .if2 .left)
 day-number-requires : tie.Need-day-number-requires
 day-number-requires c κs = (year-is (c .before .before), date-is c)
 
-day-within-requires : tie.Need-day-within-requires
-day-within-requires c κs = search needs
-
 returns-3 : tie.Need-returns-3
 unfolding dayOf
 returns-3 c = rw (year-is (c .before .before .before .before), date-is (c .before .before), c .day-within .ensures, c .before .day-number .ensures)
@@ -41,10 +32,10 @@ pub day-of-spec : {M : Type 1} → statement M
 day-of-spec =
     tie.close
     (tie.spec
-    is-served-requires
+    (λ c κs. search needs)
     returns
-    is-date-requires
+    (λ c κs. search needs)
     returns-2
     day-number-requires
-    day-within-requires
+    (λ c κs. search needs)
     returns-3)

@@ -2,18 +2,6 @@ use borrow.Author.Needs.{needs}
 use Rattle.calendar.proofs.date.day_of_date.Statement.{statement}
 use Rattle.calendar.proofs.date.day_of_date.Tie as tie
 
-style-of-requires : tie.Need-style-of-requires
-style-of-requires c κs = search needs
-
-enum-known-known : tie.Need-enum-known-known
-enum-known-known c = search needs
-
-day-of-requires : tie.Need-day-of-requires
-day-of-requires c κs = search needs
-
-enum-known-refusal : tie.Need-enum-known-refusal
-enum-known-refusal c = search needs
-
 returns : tie.Need-returns
 returns c = rw (c .day-of .ensures, ← c .before .before .before .before .style-of .ensures, c .before .before .known .given .1)
 
@@ -24,9 +12,9 @@ pub day-of-date-spec : {M : Type 1} → statement M
 day-of-date-spec =
     tie.close
     (tie.spec
-    style-of-requires
-    enum-known-known
-    day-of-requires
-    enum-known-refusal
+    (λ c κs. search needs)
+    (λ c. search needs)
+    (λ c κs. search needs)
+    (λ c. search needs)
     returns
     returns-2)

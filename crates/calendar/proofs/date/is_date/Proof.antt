@@ -8,24 +8,15 @@ use Rattle.calendar.specs.Range.{between}
 use Rattle.calendar.proofs.date.is_date.Statement.{statement}
 use Rattle.calendar.proofs.date.is_date.Tie as tie
 
-is-between-requires : tie.Need-is-between-requires
-is-between-requires c κs = search needs
-
 returns : tie.Need-returns
 unfolding isDate
 returns c = rw (sym (c .before .is-between .ensures) ∙ not-true _ (c .if1 .taken))
-
-is-leap-requires : tie.Need-is-leap-requires
-is-leap-requires c κs = search needs
 
 month-is : (c : tie.Else1) → between 1 (c .before .before .args .month) 12 ≡ true
 month-is c = sym (c .before .is-between .ensures) ∙ not-false _ (c .if1 .left)
 
 month-length-requires : tie.Need-month-length-requires
 month-length-requires c κs = range _ _ _ (month-is (c .before))
-
-is-between-requires-2 : tie.Need-is-between-requires-2
-is-between-requires-2 c κs = search needs
 
 returns-2 : tie.Need-returns-2
 unfolding isDate
@@ -35,9 +26,9 @@ pub is-date-spec : {M : Type 1} → statement M
 is-date-spec =
     tie.close
     (tie.spec
-    is-between-requires
+    (λ c κs. search needs)
     returns
-    is-leap-requires
+    (λ c κs. search needs)
     month-length-requires
-    is-between-requires-2
+    (λ c κs. search needs)
     returns-2)

@@ -5,23 +5,14 @@ use Rattle.calendar.proofs.date.Months.{months-small, last-month, this-
 use Rattle.calendar.proofs.date.month_at.Statement.{statement}
 use Rattle.calendar.proofs.date.month_at.Tie as tie
 
-add-estimate : tie.Need-add-estimate
-add-estimate c = search needs
-
 returns : tie.Need-returns
 returns c = last-month _ _ (c .before .pre) (c .if1 .taken)
-
-add-days-before : tie.Need-add-days-before
-add-days-before c = search needs
 
 before-last : (c : tie.Else1) → c .before .args .k / 32 + 1 < 12
 before-last c = omega (arith, c .before .pre, c .if1 .left, months-small (c .before .args .leap-year) 12 (omega arith))
 
 days-before-requires : tie.Need-days-before-requires
 days-before-requires c κs = omega (arith, before-last c)
-
-add-result : tie.Need-add-result
-add-result c = search needs
 
 returns-2 : tie.Need-returns-2
 returns-2 c = next-month _ _ (c .before .before .before .pre) (before-last (c .before .before)) (rw (← c .before .days-before .ensures) (c .if2 .taken))
@@ -33,10 +24,10 @@ pub month-at-spec : {M : Type 1} → statement M
 month-at-spec =
     tie.close
     (tie.spec
-    add-estimate
+    (λ c. search needs)
     returns
-    add-days-before
+    (λ c. search needs)
     days-before-requires
-    add-result
+    (λ c. search needs)
     returns-2
     returns-3)

@@ -10,12 +10,6 @@ use Rattle.calendar.specs.Distance.{distance}
 use Rattle.calendar.proofs.distance.days_between.Statement.{statement}
 use Rattle.calendar.proofs.distance.days_between.Tie as tie
 
-cast-from : tie.Need-cast-from
-cast-from c = search needs
-
-cast-to : tie.Need-cast-to
-cast-to c = search needs
-
 read : (c : tie.Start) → toZ w32 (c .args .second) -ℤ toZ w32 (c .args .first) ≡ distance (c .args .first) (c .args .second)
 read c = rw (toZ-pos w32 {n = c .args .second} (omega (arith, c .pre)), toZ-pos w32 {n = c .args .first} (omega (arith, c .pre)))
 
@@ -26,4 +20,4 @@ returns : tie.Need-returns
 returns c = toZ-ofZ (sub-result c) ∙ read c
 
 pub days-between-spec : {M : Type 1} → statement M
-days-between-spec = tie.close (tie.spec cast-from cast-to sub-result returns)
+days-between-spec = tie.close (tie.spec (λ c. search needs) (λ c. search needs) sub-result returns)

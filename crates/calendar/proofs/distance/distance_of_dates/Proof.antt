@@ -8,26 +8,8 @@ use Rattle.calendar.specs.declared.span.DayAnswer.the-variants.{Day}
 use Rattle.calendar.proofs.distance.distance_of_dates.Statement.{statement}
 use Rattle.calendar.proofs.distance.distance_of_dates.Tie as tie
 
-day-of-date-requires : tie.Need-day-of-date-requires
-day-of-date-requires c κs = search needs
-
-enum-known-day : tie.Need-enum-known-day
-enum-known-day c = search needs
-
-enum-known-refusal : tie.Need-enum-known-refusal
-enum-known-refusal c = search needs
-
 returns : tie.Need-returns
 returns c = rw (← c .before .before .before .day-of-date .ensures, c .before .refusal .given .1)
-
-day-of-date-requires-2 : tie.Need-day-of-date-requires-2
-day-of-date-requires-2 c κs = search needs
-
-enum-known-day-2 : tie.Need-enum-known-day-2
-enum-known-day-2 c = search needs
-
-enum-known-refusal-2 : tie.Need-enum-known-refusal-2
-enum-known-refusal-2 c = search needs
 
 first-day : (c : tie.After-day) → dayOfDate (c .before .before .before .args .style1) (c .before .before .before .args .year1) (c .before .before .before .args .month1) (c .before .before .before .args .day1) ≡ Day (c .day .given .0 .0)
 first-day c = sym (c .before .before .day-of-date .ensures) ∙ c .day .given .1
@@ -55,13 +37,13 @@ pub distance-of-dates-spec : {M : Type 1} → statement M
 distance-of-dates-spec =
     tie.close
     (tie.spec
-    day-of-date-requires
-    enum-known-day
-    enum-known-refusal
+    (λ c κs. search needs)
+    (λ c. search needs)
+    (λ c. search needs)
     returns
-    day-of-date-requires-2
-    enum-known-day-2
-    enum-known-refusal-2
+    (λ c κs. search needs)
+    (λ c. search needs)
+    (λ c. search needs)
     returns-2
     days-between-requires
     returns-3)

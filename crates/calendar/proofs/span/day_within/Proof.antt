@@ -8,22 +8,19 @@ use Rattle.calendar.specs.Span.{inSpan, within}
 use Rattle.calendar.proofs.span.day_within.Statement.{statement}
 use Rattle.calendar.proofs.span.day_within.Tie as tie
 
-is-in-span-requires : tie.Need-is-in-span-requires
-is-in-span-requires c κs = search needs
-
 returns : tie.Need-returns
 unfolding within
 returns c = rw (sym (c .before .is-in-span .ensures) ∙ not-true _ (c .if1 .taken))
 
-in-it : (c : tie.Else1) → inSpan (c .before .before .args .style) (c .before .before .args .day) ≡ true
-in-it c = sym (c .before .is-in-span .ensures) ∙ not-false _ (c .if1 .left)
+day-is : (c : tie.Else1) → inSpan (c .before .before .args .style) (c .before .before .args .day) ≡ true
+day-is c = sym (c .before .is-in-span .ensures) ∙ not-false _ (c .if1 .left)
 
 cast-t6 : tie.Need-cast-t6
-cast-t6 c = omega (arith, span-small _ _ (in-it c))
+cast-t6 c = omega (arith, span-small _ _ (day-is c))
 
 returns-2 : tie.Need-returns-2
 unfolding within
-returns-2 c = rw (in-it c)
+returns-2 c = rw (day-is c)
 
 pub day-within-spec : {M : Type 1} → statement M
-day-within-spec = tie.close (tie.spec is-in-span-requires returns cast-t6 returns-2)
+day-within-spec = tie.close (tie.spec (λ c κs. search needs) returns cast-t6 returns-2)

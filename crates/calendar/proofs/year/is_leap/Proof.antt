@@ -4,12 +4,6 @@ use borrow.Author.Tests.{eq-eqb, ne-eqb}
 use Rattle.calendar.proofs.year.is_leap.Statement.{statement}
 use Rattle.calendar.proofs.year.is_leap.Tie as tie
 
-enum-told : tie.Need-enum-told
-enum-told c = search needs
-
-enum-told-2 : tie.Need-enum-told-2
-enum-told-2 c = search needs
-
 returns : tie.Need-returns
 returns c = simp (c .before .enum-told2 .given .1, eq-eqb _ _ (c .if1 .taken), or-true)
 
@@ -23,4 +17,4 @@ returns-4 : tie.Need-returns-4
 returns-4 c = simp (c .before .before .enum-told2 .given .1, ne-eqb _ _ (c .before .if1 .left), ne-eqb _ _ (c .if2 .left), and-true, or-false)
 
 pub is-leap-spec : {M : Type 1} → statement M
-is-leap-spec = tie.close (tie.spec enum-told enum-told-2 returns returns-2 returns-3 returns-4)
+is-leap-spec = tie.close (tie.spec (λ c. search needs) (λ c. search needs) returns returns-2 returns-3 returns-4)

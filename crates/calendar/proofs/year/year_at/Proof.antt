@@ -3,18 +3,6 @@ use Rattle.calendar.proofs.year.Laws.{this-year, next-year}
 use Rattle.calendar.proofs.year.year_at.Statement.{statement}
 use Rattle.calendar.proofs.year.year_at.Tie as tie
 
-year-estimate-requires : tie.Need-year-estimate-requires
-year-estimate-requires c κs = search needs
-
-add-t5 : tie.Need-add-t5
-add-t5 c = search needs
-
-new-year-requires : tie.Need-new-year-requires
-new-year-requires c κs = search needs
-
-add-result : tie.Need-add-result
-add-result c = search needs
-
 returns : tie.Need-returns
 returns c = next-year _ _ _ (rw (← c .before .new-year .ensures) (c .if1 .taken)) (c .before .before .year-estimate .ensures .3)
 
@@ -23,4 +11,4 @@ returns-2 c = this-year _ _ _ (c .before .before .year-estimate .ensures .0) (c 
 
 pub year-at-spec : {M : Type 1} → statement M
 year-at-spec =
-    tie.close (tie.spec year-estimate-requires add-t5 new-year-requires add-result returns returns-2)
+    tie.close (tie.spec (λ c κs. search needs) (λ c. search needs) (λ c κs. search needs) (λ c. search needs) returns returns-2)

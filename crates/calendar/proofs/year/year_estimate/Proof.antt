@@ -20,29 +20,17 @@ g-days c =
     let r = rw (c .enum-told2 .given .1) at (span-range _ _ (c .before .before .pre)) in
     omega arith
 
-enum-told : tie.Need-enum-told
-enum-told c = search needs
-
 sub-result : tie.Need-sub-result
 sub-result c = omega (arith, j-days c)
 
 mul-result : tie.Need-mul-result
 mul-result c = omega (arith, j-days c)
 
-add-result : tie.Need-add-result
-add-result c = search needs
-
-enum-told-2 : tie.Need-enum-told-2
-enum-told-2 c = search needs
-
 sub-result-2 : tie.Need-sub-result-2
 sub-result-2 c = omega (arith, g-days c)
 
 mul-result-2 : tie.Need-mul-result-2
 mul-result-2 c = omega (arith, g-days c)
-
-add-result-2 : tie.Need-add-result-2
-add-result-2 c = search needs
 
 returns : tie.Need-returns
 returns c =
@@ -62,13 +50,13 @@ pub year-estimate-spec : {M : Type 1} → statement M
 year-estimate-spec =
     tie.close
     (tie.spec
-    enum-told
+    (λ c. search needs)
     sub-result
     mul-result
-    add-result
-    enum-told-2
+    (λ c. search needs)
+    (λ c. search needs)
     sub-result-2
     mul-result-2
-    add-result-2
+    (λ c. search needs)
     returns
     returns-2)
