@@ -8,15 +8,20 @@ fn date(year: i128, month: i128, day: i128) -> Date {
     Date { year, month, day }
 }
 
-fn shown<T>(answer: Answer<T>, show: impl Fn(T) -> String) -> String {
+/// The value, or the refusal's number.
+fn one<T>(answer: Answer<T>, show: impl Fn(T) -> String) -> String {
     match answer {
         Ok(value) => show(value),
-        Err(refusal) => format!("refused {refusal}"),
+        Err(refusal) => refusal.to_string(),
     }
 }
 
-fn number(n: i128) -> String {
-    n.to_string()
+/// The refusal's number or 0, and the value or 0.
+fn two(answer: Answer<i128>) -> String {
+    match answer {
+        Ok(value) => format!("0 {value}"),
+        Err(refusal) => format!("{refusal} 0"),
+    }
 }
 
 /// The answer to a call, or nothing where there is no such call.
@@ -24,13 +29,11 @@ fn answered(call: &str) -> Option<String> {
     let (name, rest) = call.split_once(' ')?;
     let numbers: Vec<i128> = rest.split(' ').map(|word| word.parse().ok()).collect::<Option<_>>()?;
     match (name, &numbers[..]) {
-        ("day", &[s, y, m, d]) => Some(shown(day_of_date(s, &date(y, m, d)), number)),
-        ("date", &[s, n]) => {
-            Some(shown(date_of_day(s, n), |d| format!("{}.{} {}", d.day, d.month, d.year)))
-        }
-        ("weekday", &[s, n]) => Some(shown(weekday_of_day(s, n), number)),
+        ("day", &[s, y, m, d]) => Some(one(day_of_date(s, &date(y, m, d)), |n| n.to_string())),
+        ("date", &[s, n]) => Some(one(date_of_day(s, n), |d| format!("{}.{} {}", d.day, d.month, d.year))),
+        ("weekday", &[s, n]) => Some(two(weekday_of_day(s, n))),
         ("distance", &[s, y, m, d, t, z, n, e]) => {
-            Some(shown(distance_of_dates(s, &date(y, m, d), t, &date(z, n, e)), number))
+            Some(two(distance_of_dates(s, &date(y, m, d), t, &date(z, n, e))))
         }
         _ => None,
     }

@@ -1,3 +1,5 @@
--- Laws that belong to no one subject; each subject's own stand in its folder.
+-- Claims and Known are what the calendar promises beyond its contracts; the rest are steps to them, each subject's in its folder.
 mod Counting
 mod Each
+pub mod Claims
+pub mod Known

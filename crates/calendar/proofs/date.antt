@@ -1,4 +1,3 @@
 mod Months
-mod Dates
+pub mod Dates
 pub mod Laws
-pub mod Known

@@ -1,6 +1,7 @@
 -- Signed distances.
 use Prim.Native.Nat.{ℕ}
 use lib.IntN.{ℤ, pos, _-ℤ_}
+use Rattle.calendar.specs.Refusal.{refusalNumber}
 use Rattle.calendar.specs.declared.distance.DistanceAnswer.the-variants.{Days, NoDistance}
 use Rattle.calendar.specs.declared.distance.DistanceAnswer.{DistanceAnswer}
 use Rattle.calendar.specs.declared.span.DayAnswer.the-variants.{Day, NoDay}
@@ -15,3 +16,13 @@ abbrev pub distanceOf : DayAnswer → DayAnswer → DistanceAnswer
 distanceOf (Day a) (Day b) = Days (distance a b)
 distanceOf (Day a) (NoDay x) = NoDistance x
 distanceOf (NoDay x) q = NoDistance x
+
+-- "one answers the refusal, or 0 if there is none"
+abbrev pub distanceRefusal : DistanceAnswer → ℕ
+distanceRefusal (Days z) = 0
+distanceRefusal (NoDistance x) = refusalNumber x
+
+-- "the other answers the distance .., or 0 if the first refuses"
+abbrev pub distanceOrZero : DistanceAnswer → ℤ
+distanceOrZero (Days z) = z
+distanceOrZero (NoDistance x) = pos 0

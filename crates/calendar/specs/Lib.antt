@@ -1,4 +1,4 @@
--- What the calendar's contracts cite: definitions only, each under the sentence of the scope that it says.
+-- What a reader must believe: definitions only, each under what it says; words in quotes are the scope's.
 pub mod Range
 pub mod Refusal
 pub mod Style

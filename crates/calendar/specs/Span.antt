@@ -2,7 +2,7 @@
 use mathlib.Core.Bool.{Bool}
 use Prim.Native.Nat.{ℕ}
 use Rattle.calendar.specs.Range.{between}
-use Rattle.calendar.specs.Refusal.{unless}
+use Rattle.calendar.specs.Refusal.{refusalNumber, unless}
 use Rattle.calendar.specs.declared.refusal.Refusal.the-variants.{Span}
 use Rattle.calendar.specs.declared.span.DayAnswer.the-variants.{Day, NoDay}
 use Rattle.calendar.specs.declared.span.DayAnswer.{DayAnswer}
@@ -26,3 +26,8 @@ inSpan s n = between (firstDay s) n (lastDay s)
 -- refusal 6: "a day outside the style's span"; any other day is the answer
 unfoldable pub within : Style → ℕ → DayAnswer
 within s n = unless (inSpan s n) (NoDay Span) (Day n)
+
+-- "a call for a day answers one number, the day or the refusal"
+abbrev pub dayOrRefusal : DayAnswer → ℕ
+dayOrRefusal (Day n) = n
+dayOrRefusal (NoDay x) = refusalNumber x

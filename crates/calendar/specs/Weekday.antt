@@ -1,6 +1,6 @@
 -- Weekdays.
 use Prim.Native.Nat.{ℕ, _+_, _%_}
-use Rattle.calendar.specs.Refusal.{unless}
+use Rattle.calendar.specs.Refusal.{refusalNumber, unless}
 use Rattle.calendar.specs.Span.{inSpan}
 use Rattle.calendar.specs.Style.{styleOf, inStyle}
 use Rattle.calendar.specs.declared.refusal.Refusal.the-variants.{Span}
@@ -19,3 +19,13 @@ weekdayOf s n = unless (inSpan s n) (NoWeekday Span) (Weekday (weekday n))
 -- weekday: refused by 1, and else as in the style
 abbrev pub weekdayOfDay : ℕ → ℕ → WeekdayAnswer
 weekdayOfDay k n = inStyle NoWeekday (λ s. weekdayOf s n) (styleOf k)
+
+-- "one answers the refusal, or 0 if there is none"
+abbrev pub weekdayRefusal : WeekdayAnswer → ℕ
+weekdayRefusal (Weekday w) = 0
+weekdayRefusal (NoWeekday x) = refusalNumber x
+
+-- "the other answers the .. weekday, or 0 if the first refuses"
+abbrev pub weekdayOrZero : WeekdayAnswer → ℕ
+weekdayOrZero (Weekday w) = w
+weekdayOrZero (NoWeekday x) = 0

@@ -1,11 +1,12 @@
 // The signed distance of two dates.
 use crate::date::day_of_date;
 use crate::refusal::Refusal;
+use crate::refusal::refusal_number;
 use crate::span::DayAnswer;
 ghost use mathlib.Core.Path.{_≡_};
 ghost use Prim.Native.Nat.{_≤_};
 ghost use Rattle.calendar.specs.Date.{dayOfDate};
-ghost use Rattle.calendar.specs.Distance.{distance, distanceOf};
+ghost use Rattle.calendar.specs.Distance.{distance, distanceOf, distanceRefusal, distanceOrZero};
 
 pub enum DistanceAnswer {
     Days(i32),
@@ -44,4 +45,24 @@ pub fn distance_of_dates(
         DayAnswer::NoDay(refusal) => return DistanceAnswer::NoDistance(refusal),
     };
     DistanceAnswer::Days(days_between(first, second))
+}
+
+// The refusal's number, or 0 where there is none.
+pub fn distance_refusal(answer: DistanceAnswer) -> u32
+    ensures { λ r. ⌜ r ≡ distanceRefusal answer ⌝ }
+{
+    match answer {
+        DistanceAnswer::Days(_) => 0,
+        DistanceAnswer::NoDistance(refusal) => refusal_number(refusal),
+    }
+}
+
+// The distance, or 0 where it is refused.
+pub fn distance_or_zero(answer: DistanceAnswer) -> i32
+    ensures { λ r. ⌜ r ≡ distanceOrZero answer ⌝ }
+{
+    match answer {
+        DistanceAnswer::Days(days) => days,
+        DistanceAnswer::NoDistance(_) => 0,
+    }
 }

@@ -1,6 +1,6 @@
 // Styles, years, dates, weekdays and distances of the two calendars. No public function has a
-// `requires`, and each contract is an equation with a definition of specs/, or a relation that
-// allows one answer only.
+// `requires`, and the contract of each is an equation with a definition of specs/, or a relation
+// that allows one answer only.
 pub mod date;
 pub mod distance;
 mod range;

@@ -13,7 +13,7 @@ pub enum StyleAnswer {
     NoStyle(Refusal),
 }
 
-// The style that has a number: the one place where a caller's number becomes a style.
+// The style that has a number.
 pub fn style_of(number: u64) -> StyleAnswer
     ensures { λ r. ⌜ r ≡ styleOf number ⌝ }
 {

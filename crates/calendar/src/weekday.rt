@@ -1,22 +1,16 @@
 // Weekdays, from 1 for Monday to 7 for Sunday.
 use crate::refusal::Refusal;
+use crate::refusal::refusal_number;
 use crate::span::is_in_span;
 use crate::style::Style;
 use crate::style::StyleAnswer;
 use crate::style::style_of;
 ghost use mathlib.Core.Path.{_≡_};
-ghost use Rattle.calendar.specs.Weekday.{weekday, weekdayOf, weekdayOfDay};
+ghost use Rattle.calendar.specs.Weekday.{weekdayOf, weekdayOfDay, weekdayRefusal, weekdayOrZero};
 
 pub enum WeekdayAnswer {
     Weekday(u32),
     NoWeekday(Refusal),
-}
-
-// The weekday of any day.
-pub fn weekday_number(day: u64) -> u32
-    ensures { λ r. ⌜ r ≡ weekday day ⌝ }
-{
-    (day % 7 + 1) as u32
 }
 
 // The weekday of a day of a style.
@@ -26,7 +20,7 @@ pub fn weekday_of(style: Style, day: u64) -> WeekdayAnswer
     if !is_in_span(style, day) {
         return WeekdayAnswer::NoWeekday(Refusal::Span);
     }
-    WeekdayAnswer::Weekday(weekday_number(day))
+    WeekdayAnswer::Weekday((day % 7 + 1) as u32)
 }
 
 // Weekday: refused by 1 or 6.
@@ -36,5 +30,25 @@ pub fn weekday_of_day(style: u64, day: u64) -> WeekdayAnswer
     match style_of(style) {
         StyleAnswer::Known(known) => weekday_of(known, day),
         StyleAnswer::NoStyle(refusal) => WeekdayAnswer::NoWeekday(refusal),
+    }
+}
+
+// The refusal's number, or 0 where there is none.
+pub fn weekday_refusal(answer: WeekdayAnswer) -> u32
+    ensures { λ r. ⌜ r ≡ weekdayRefusal answer ⌝ }
+{
+    match answer {
+        WeekdayAnswer::Weekday(_) => 0,
+        WeekdayAnswer::NoWeekday(refusal) => refusal_number(refusal),
+    }
+}
+
+// The weekday, or 0 where it is refused.
+pub fn weekday_or_zero(answer: WeekdayAnswer) -> u32
+    ensures { λ r. ⌜ r ≡ weekdayOrZero answer ⌝ }
+{
+    match answer {
+        WeekdayAnswer::Weekday(weekday) => weekday,
+        WeekdayAnswer::NoWeekday(_) => 0,
     }
 }

@@ -13,7 +13,8 @@ pub struct NamedYear {
     pub year: u64,
 }
 
-pub fn is_leap(named: NamedYear) -> bool
+// Whether the year is leap.
+pub(crate) fn is_leap(named: NamedYear) -> bool
     ensures { λ r. ⌜ r ≡ leap (named .style) (named .year) ⌝ }
 {
     let style = named.style;
@@ -41,8 +42,8 @@ fn first_year(style: Style) -> u64
     }
 }
 
-// Whether a year is served.
-pub fn is_served(named: NamedYear) -> bool
+// Whether the year is served.
+pub(crate) fn is_served(named: NamedYear) -> bool
     ensures { λ r. ⌜ r ≡ served (named .style) (named .year) ⌝ }
 {
     let style = named.style;

@@ -1,16 +1,18 @@
 // Calls of date to day, day to date, weekday and distance, each printed with its arguments and its
 // answer: the ends of the spans and their neighbours, leap days, refusals, and numbers up to
-// 2^64 - 1.
+// 2^64 - 1. A day or its refusal is one number; a weekday or a distance is two, the refusal or 0
+// and the value or 0; a date that is refused is the refusal's number alone.
 use calendar::date::DateAnswer;
 use calendar::date::date_of_day;
 use calendar::date::day_of_date;
-use calendar::distance::DistanceAnswer;
 use calendar::distance::distance_of_dates;
-use calendar::refusal::Refusal;
+use calendar::distance::distance_or_zero;
+use calendar::distance::distance_refusal;
 use calendar::refusal::refusal_number;
-use calendar::span::DayAnswer;
-use calendar::weekday::WeekdayAnswer;
+use calendar::span::day_or_refusal;
 use calendar::weekday::weekday_of_day;
+use calendar::weekday::weekday_or_zero;
+use calendar::weekday::weekday_refusal;
 use libc::STDOUT_FILENO;
 
 const JULIAN: u64 = 1;
@@ -52,11 +54,6 @@ fn answered(n: u64) {
     text(b"\n");
 }
 
-fn refused(refusal: Refusal) {
-    text(b"refused ");
-    answered(refusal_number(refusal) as u64);
-}
-
 // The number itself where it is not negative, and 0 elsewhere.
 fn unsigned(n: i32) -> u64 {
     if n < 0 {
@@ -87,10 +84,7 @@ fn ask_day(style: u64, year: u64, month: u64, day: u64) {
     text(b"day");
     spaced_date(style, year, month, day);
     text(b": ");
-    match day_of_date(style, year, month, day) {
-        DayAnswer::Day(answer) => answered(answer as u64),
-        DayAnswer::NoDay(refusal) => refused(refusal),
-    }
+    answered(day_or_refusal(day_of_date(style, year, month, day)) as u64);
 }
 
 fn ask_date(style: u64, day: u64) {
@@ -100,7 +94,7 @@ fn ask_date(style: u64, day: u64) {
     text(b": ");
     match date_of_day(style, day) {
         DateAnswer::On { year, month, day } => answered_date(year, month, day),
-        DateAnswer::NoDate(refusal) => refused(refusal),
+        DateAnswer::NoDate(refusal) => answered(refusal_number(refusal) as u64),
     }
 }
 
@@ -108,11 +102,11 @@ fn ask_weekday(style: u64, day: u64) {
     text(b"weekday");
     spaced(style);
     spaced(day);
-    text(b": ");
-    match weekday_of_day(style, day) {
-        WeekdayAnswer::Weekday(answer) => answered(answer as u64),
-        WeekdayAnswer::NoWeekday(refusal) => refused(refusal),
-    }
+    text(b":");
+    let answer = weekday_of_day(style, day);
+    spaced(weekday_refusal(answer) as u64);
+    text(b" ");
+    answered(weekday_or_zero(answer) as u64);
 }
 
 fn ask_distance(
@@ -128,11 +122,11 @@ fn ask_distance(
     text(b"distance");
     spaced_date(style1, year1, month1, day1);
     spaced_date(style2, year2, month2, day2);
-    text(b": ");
-    match distance_of_dates(style1, year1, month1, day1, style2, year2, month2, day2) {
-        DistanceAnswer::Days(answer) => answered_signed(answer),
-        DistanceAnswer::NoDistance(refusal) => refused(refusal),
-    }
+    text(b":");
+    let answer = distance_of_dates(style1, year1, month1, day1, style2, year2, month2, day2);
+    spaced(distance_refusal(answer) as u64);
+    text(b" ");
+    answered_signed(distance_or_zero(answer));
 }
 
 // The two calls that take a day.

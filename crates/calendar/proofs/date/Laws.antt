@@ -1,11 +1,12 @@
--- Day to date and date to day undo each other, and each day of the span has one date, the next of the day before it.
+-- Dates of a style and the days of its span.
 use mathlib.Core.Bool.{true, true≢false}
 use mathlib.Core.Path.{_≡_, refl, sym, _∙_}
 use Prim.Native.Nat.{ℕ, _+_, _≤_}
 use native.Mathlib.Omega.{arith}
 use Rattle.calendar.proofs.date.Dates.{date-bounds, bounds-date, Dated, DatedOn, year-of, one-date, next-dated, every-day}
-use Rattle.calendar.proofs.span.Laws.{span-small, served-small, year-served, after-start, passed}
-use Rattle.calendar.specs.Date.{isDate, dayNumber, dayOf, dayOfDate, IsDateOf, IsDateOfDay, nextDate}
+use Rattle.calendar.proofs.refusal.Laws.{passed}
+use Rattle.calendar.proofs.span.Laws.{span-small, served-small, year-served, after-start}
+use Rattle.calendar.specs.Date.{isDate, dayNumber, dayOf, dayOfDate, IsDateOf, nextDate}
 use Rattle.calendar.specs.Span.{inSpan, within}
 use Rattle.calendar.specs.Style.{styleOf, inStyle}
 use Rattle.calendar.specs.Year.{named, served}
@@ -17,7 +18,7 @@ use Rattle.calendar.specs.declared.style.Style.{Style}
 use Rattle.calendar.specs.declared.style.StyleAnswer.the-variants.{Known, NoStyle}
 use Rattle.calendar.specs.declared.style.StyleAnswer.{StyleAnswer}
 
--- a date is answered with its day exactly where that lies in the span: its year is served then
+-- a date that is answered with a day is the date of that day, which lies in the span
 pub dated : (s : Style) (n y m d : ℕ) → dayOf (named s y) m d ≡ Day n → (inSpan s n ≡ true) × Dated s n y m d
 unfolding dayOf within
 dated s n y m d e =
@@ -27,6 +28,7 @@ dated s n y m d e =
     let number : dayNumber s y m d ≡ n = cc (r .1) in
     (rw number at (r .0), record { year = served-small s y (p .0) .0; date = date-bounds s y m d (q .0); number = number })
 
+-- and the date of a day of the span is answered with it: its year is served
 pub has-day : (s : Style) (n y m d : ℕ) → inSpan s n ≡ true → Dated s n y m d → dayOf (named s y) m d ≡ Day n
 unfolding dayOf within
 has-day s n y m d i h = rw (year-served s n y i (year-of s n y m d h), bounds-date s y m d (h .date), h .number, i)
@@ -37,14 +39,6 @@ one-answer s n (On y m d) (On y′ m′ d′) p q = one-date s n y m d y′ m′
 one-answer s n (On y m d) (NoDate x) p q = absurd (true≢false (sym (dated s n y m d p .0) ∙ q .0))
 one-answer s n (NoDate x) (On y m d) p q = absurd (true≢false (sym (dated s n y m d q .0) ∙ p .0))
 one-answer s n (NoDate x) (NoDate x′) p q = rw (p .1, q .1)
-
-one-in : (n : ℕ) (a b : DateAnswer) (t : StyleAnswer) → inStyle (λ x. a ≡ NoDate x) (λ s. IsDateOf s n a) t
-    → inStyle (λ x. b ≡ NoDate x) (λ s. IsDateOf s n b) t → a ≡ b
-one-in n a b (Known s) p q = one-answer s n a b p q
-one-in n a b (NoStyle x) p q = p ∙ sym q
-
-pub one-answer-of-day : (k n : ℕ) (a b : DateAnswer) → IsDateOfDay k n a → IsDateOfDay k n b → a ≡ b
-one-answer-of-day k n a b p q = one-in n a b (styleOf k) p q
 
 -- every day of the span has a date
 pub has-date : (s : Style) (n : ℕ) → inSpan s n ≡ true → (y : ℕ) × (m : ℕ) × (d : ℕ) × (dayOf (named s y) m d ≡ Day n)
@@ -60,26 +54,16 @@ of-span s n (NoDate x) i h = absurd h
 pub next-date : (s : Style) (n y m d : ℕ) → IsDateOf s n (On y m d) → inSpan s (n + 1) ≡ true → IsDateOf s (n + 1) (nextDate s y m d)
 next-date s n y m d h i = of-span s (n + 1) (nextDate s y m d) i (next-dated s n y m d (dated s n y m d h .1))
 
--- date to day of the date of a day is the day, and back
-back-in : (t : StyleAnswer) (n y m d : ℕ) → inStyle (λ x. On y m d ≡ NoDate x) (λ s. IsDateOf s n (On y m d)) t
-    → inStyle NoDay (λ s. dayOf (named s y) m d) t ≡ Day n
-back-in (Known s) n y m d e = e
-back-in (NoStyle x) n y m d e = let o : _≡_ {A = ℕ} 0 1 = cc in absurd (omega arith)
-
-forth-in : (t : StyleAnswer) (n y m d : ℕ) → inStyle NoDay (λ s. dayOf (named s y) m d) t ≡ Day n
+-- a style's number that is answered with a day names a style
+known-in : (t : StyleAnswer) (n y m d : ℕ) → inStyle NoDay (λ s. dayOf (named s y) m d) t ≡ Day n
     → (s : Style) × (t ≡ Known s) × (dayOf (named s y) m d ≡ Day n)
-forth-in (Known s) n y m d e = (s, refl, e)
-forth-in (NoStyle x) n y m d e = let o : _≡_ {A = ℕ} 0 1 = cc in absurd (omega arith)
+known-in (Known s) n y m d e = (s, refl, e)
+known-in (NoStyle x) n y m d e = let o : _≡_ {A = ℕ} 0 1 = cc in absurd (omega arith)
 
-pub day-of-its-date : (k n y m d : ℕ) → IsDateOfDay k n (On y m d) → dayOfDate k y m d ≡ Day n
-day-of-its-date k n y m d h = back-in (styleOf k) n y m d h
-
-pub date-of-its-day : (k n y m d : ℕ) → dayOfDate k y m d ≡ Day n → IsDateOfDay k n (On y m d)
-date-of-its-day k n y m d e =
-    let h = forth-in (styleOf k) n y m d e in
-    rw (h .1) (h .2)
+pub known-style : (k n y m d : ℕ) → dayOfDate k y m d ≡ Day n → (s : Style) × (styleOf k ≡ Known s) × (dayOf (named s y) m d ≡ Day n)
+known-style k n y m d e = known-in (styleOf k) n y m d e
 
 pub day-of-date-small : (k n y m d : ℕ) → dayOfDate k y m d ≡ Day n → (1721424 ≤ n) × (n ≤ 5373557)
 day-of-date-small k n y m d e =
-    let h = forth-in (styleOf k) n y m d e in
+    let h = known-style k n y m d e in
     span-small (h .0) n (dated (h .0) n y m d (h .2) .0)

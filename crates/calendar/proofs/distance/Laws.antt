@@ -1,6 +1,6 @@
--- How far a distance can reach, and when it is 0.
+-- The distance of two days: its size, and when it is 0.
 use mathlib.Core.Bool.{Bool, true, false, cond}
-use mathlib.Core.Path.{_≡_, refl, sym, _∙_, ap}
+use mathlib.Core.Path.{_≡_, refl, _∙_, ap}
 use Prim.Native.Nat.{ℕ, zero, suc, _+_, _-_, _≤_}
 use native.Mathlib.Nat.{le-refl}
 use native.Mathlib.Omega.{arith}
@@ -10,8 +10,6 @@ use lib.Signed.{mag}
 use mir.Syntax.{w32}
 use mir.Val.{SFits}
 use borrow.Author.Tests.{ltb-true}
-use Rattle.calendar.proofs.date.Laws.{day-of-date-small}
-use Rattle.calendar.specs.Date.{dayOfDate}
 use Rattle.calendar.specs.Distance.{distance, distanceOf}
 use Rattle.calendar.specs.declared.distance.DistanceAnswer.the-variants.{Days}
 use Rattle.calendar.specs.declared.span.DayAnswer.the-variants.{Day, NoDay}
@@ -22,7 +20,7 @@ size a b k true e h g = omega (arith, ltb-true)
 size a b k false e h g = omega arith
 
 -- days no further apart than k, whichever is first
-distance-size : (a b k : ℕ) → a ≤ b + k → b ≤ a + k → natAbs (distance a b) ≤ k
+pub distance-size : (a b k : ℕ) → a ≤ b + k → b ≤ a + k → natAbs (distance a b) ≤ k
 distance-size zero b k h g = omega arith
 distance-size (suc a) b k h g = size (suc a) b k (ltb b (suc a)) refl h g
 
@@ -31,20 +29,11 @@ mag-small (pos n) = le-refl n
 mag-small (negsuc n) = omega arith
 
 -- a distance has two days
-both-days : (p q : DayAnswer) (z : ℤ) → distanceOf p q ≡ Days z → (a : ℕ) × (b : ℕ) × (p ≡ Day a) × (q ≡ Day b) × (distance a b ≡ z)
+pub both-days : (p q : DayAnswer) (z : ℤ) → distanceOf p q ≡ Days z → (a : ℕ) × (b : ℕ) × (p ≡ Day a) × (q ≡ Day b) × (distance a b ≡ z)
 both-days (Day a) (Day b) z e = (a, b, refl, refl, cc)
 both-days (Day a) (NoDay x) z e = let o : _≡_ {A = ℕ} 0 1 = cc in absurd (omega arith)
 both-days (NoDay x) q z e = let o : _≡_ {A = ℕ} 0 1 = cc in absurd (omega arith)
 
--- a distance lies from -3652133 to 3652133
-pub distance-range : (k y m d k′ y′ m′ d′ : ℕ) (z : ℤ) → distanceOf (dayOfDate k y m d) (dayOfDate k′ y′ m′ d′) ≡ Days z → natAbs z ≤ 3652133
-distance-range k y m d k′ y′ m′ d′ z h =
-    let r = both-days (dayOfDate k y m d) (dayOfDate k′ y′ m′ d′) z h in
-    let p = day-of-date-small k (r .0) y m d (r .2) in
-    let q = day-of-date-small k′ (r .1) y′ m′ d′ (r .3) in
-    rw (sym (r .4)) (distance-size (r .0) (r .1) 3652133 (omega arith) (omega arith))
-
--- a distance is 0 exactly when both dates have the same day
 pub zero-same-day : (p q : DayAnswer) → distanceOf p q ≡ Days (pos 0) → (n : ℕ) × (p ≡ Day n) × (q ≡ Day n)
 zero-same-day p q e =
     let r = both-days p q (pos 0) e in

@@ -1,17 +1,13 @@
 -- Days of the span, and the years that hold them.
-use mathlib.Core.Bool.{Bool, true, false}
-use mathlib.Core.Path.{_≡_, refl}
+use mathlib.Core.Bool.{true}
+use mathlib.Core.Path.{_≡_}
 use Prim.Native.Nat.{ℕ, suc, _≤_}
 use native.Mathlib.Decide.{decLt}
 use native.Mathlib.Omega.{arith}
 use Rattle.calendar.proofs.range.Laws.{range, in-range}
 use Rattle.calendar.proofs.year.Laws.{new-year-closed, new-year-rises}
-use Rattle.calendar.specs.Refusal.{unless}
 use Rattle.calendar.specs.Span.{firstDay, lastDay, inSpan}
 use Rattle.calendar.specs.Year.{newYear, YearOf, firstYear, served}
-use Rattle.calendar.specs.declared.refusal.Refusal.{Refusal}
-use Rattle.calendar.specs.declared.span.DayAnswer.the-variants.{Day, NoDay}
-use Rattle.calendar.specs.declared.span.DayAnswer.{DayAnswer}
 use Rattle.calendar.specs.declared.style.Style.the-variants.{Julian, Gregorian}
 use Rattle.calendar.specs.declared.style.Style.{Style}
 
@@ -72,8 +68,3 @@ year-served s n y e h =
       | no g ↦ omega arith
     ] in
     in-range (firstYear s) y 9999 low high
-
--- an answer that is a day has passed the test before it
-pub passed : (t : Bool) (x : Refusal) (a : DayAnswer) (n : ℕ) → unless t (NoDay x) a ≡ Day n → (t ≡ true) × (a ≡ Day n)
-passed true x a n e = (refl, e)
-passed false x a n e = let z : _≡_ {A = ℕ} 0 1 = cc in absurd (omega arith)

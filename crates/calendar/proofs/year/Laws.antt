@@ -16,13 +16,13 @@ abbrev bit : Bool → ℕ
 bit b = cond b 1 0
 
 -- the quotient of a number that lies from one multiple up to the next
-between : (k n q : ℕ) → q * k ≤ n → n < q * k + k → n / k ≡ q
-between k n q l h = div-eq-of-lt-le k l (rw (add-mul, one-mul) h)
+quotient : (k n q : ℕ) → q * k ≤ n → n < q * k + k → n / k ≡ q
+quotient k n q l h = div-eq-of-lt-le k l (rw (add-mul, one-mul) h)
 
 before-multiple : (k n q : ℕ) → 1 ≤ k → q * k ≡ suc n → q ≡ n / k + 1
 before-multiple k n zero h e = absurd (omega (arith, zero-mul k))
 before-multiple k n (suc q) h e =
-    omega (arith, between k n q (omega (arith, suc-mul q k)) (omega (arith, suc-mul q k)))
+    omega (arith, quotient k n q (omega (arith, suc-mul q k)) (omega (arith, suc-mul q k)))
 
 -- a quotient grows by one exactly at a multiple
 up : (k n : ℕ) (b : Bool) → 1 ≤ k → divides k (suc n) ≡ b → suc n / k ≡ n / k + bit b
@@ -31,7 +31,7 @@ up k n true h e =
 up k n false h e =
     let more : suc n % k ≡ 0 → ⊥ = eqb-false (suc n % k) 0 e in
     let whole = div-add-mod' (suc n) k in
-    omega (arith, between k n (suc n / k) (omega arith) (omega (arith, mod-lt (suc n) h)))
+    omega (arith, quotient k n (suc n / k) (omega arith) (omega (arith, mod-lt (suc n) h)))
 
 -- where every multiple of k is one of j, k divides no more than j
 fewer : (j k y : ℕ) (a b : Bool) → (y % k ≡ 0 → y % j ≡ 0) → divides j y ≡ a → divides k y ≡ b → bit b ≤ bit a
@@ -123,10 +123,10 @@ estimated s n k h g =
     (omega (arith, new-year-closed s k), rw e (omega (arith, new-year-closed s (k + 2))))
 
 -- the one correction of the estimate
-pub this-year : (s : Style) (n y : ℕ) → 1 ≤ y → newYear s y ≤ n → n < newYear s (y + 1) → YearOf s n y
-this-year s n y one from to = record { one = one; from = from; to = rw add-one at to }
+pub estimate-right : (s : Style) (n y : ℕ) → 1 ≤ y → newYear s y ≤ n → n < newYear s (y + 1) → YearOf s n y
+estimate-right s n y one from to = record { one = one; from = from; to = rw add-one at to }
 
-pub next-year : (s : Style) (n y : ℕ) → newYear s (y + 1) ≤ n → n < newYear s (y + 2) → YearOf s n (y + 1)
-next-year s n y from to =
+pub estimate-low : (s : Style) (n y : ℕ) → newYear s (y + 1) ≤ n → n < newYear s (y + 2) → YearOf s n (y + 1)
+estimate-low s n y from to =
     let e : y + 2 ≡ y + 1 + 1 = omega arith in
-    this-year s n (y + 1) (omega arith) from (rw e at to)
+    estimate-right s n (y + 1) (omega arith) from (rw e at to)

@@ -8,8 +8,7 @@ returns : tie.Need-returns
 returns c = rw (sym (c .before .is-in-span .ensures) ∙ not-true _ (c .if1 .taken))
 
 returns-2 : tie.Need-returns-2
-returns-2 c = rw (c .weekday-number .ensures, sym (c .before .before .is-in-span .ensures) ∙ not-false _ (c .before .if1 .left))
+returns-2 c = rw (sym (c .before .is-in-span .ensures) ∙ not-false _ (c .if1 .left))
 
 pub weekday-of-spec : {M : Type 1} → statement M
-weekday-of-spec =
-    tie.close (tie.spec (λ c κs. search needs) returns (λ c κs. search needs) returns-2)
+weekday-of-spec = tie.close (tie.spec (λ c κs. search needs) returns (λ c. search needs) (λ c. search needs) returns-2)

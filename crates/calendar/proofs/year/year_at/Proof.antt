@@ -1,13 +1,13 @@
 use borrow.Author.Needs.{needs}
-use Rattle.calendar.proofs.year.Laws.{this-year, next-year}
+use Rattle.calendar.proofs.year.Laws.{estimate-right, estimate-low}
 use Rattle.calendar.proofs.year.year_at.Statement.{statement}
 use Rattle.calendar.proofs.year.year_at.Tie as tie
 
 returns : tie.Need-returns
-returns c = next-year _ _ _ (rw (← c .before .new-year .ensures) (c .if1 .taken)) (c .before .before .year-estimate .ensures .3)
+returns c = estimate-low _ _ _ (rw (← c .before .new-year .ensures) (c .if1 .taken)) (c .before .before .year-estimate .ensures .3)
 
 returns-2 : tie.Need-returns-2
-returns-2 c = this-year _ _ _ (c .before .before .year-estimate .ensures .0) (c .before .before .year-estimate .ensures .2) (rw (← c .before .new-year .ensures) (c .if1 .left))
+returns-2 c = estimate-right _ _ _ (c .before .before .year-estimate .ensures .0) (c .before .before .year-estimate .ensures .2) (rw (← c .before .new-year .ensures) (c .if1 .left))
 
 pub year-at-spec : {M : Type 1} → statement M
 year-at-spec =
