@@ -15,7 +15,8 @@ module _ (f : ℕ → ℕ) (grows : (n : ℕ) → f n ≤ f (suc n)) where
       let e : n - m + m ≡ n = omega arith in
       rw e at (further m (n - m))
 
-  not-after : (m n k : ℕ) → f m ≤ k → k < f (suc n) → m ≤ n
+  -- what is reached by k is not past what begins after it
+  pub not-after : (m n k : ℕ) → f m ≤ k → k < f (suc n) → m ≤ n
   not-after m n k from to =
       elim (decLt n m) [
         | yes h ↦ absurd (omega (arith, rises (suc n) m h))

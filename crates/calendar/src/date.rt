@@ -18,15 +18,19 @@ ghost use Prim.Native.Nat.{pred, _≤_, _<_};
 ghost use Rattle.calendar.specs.Year.{served};
 ghost use Rattle.calendar.specs.Date.{monthLength, daysOfMonths, MonthOf, isDate, dayNumber, dayOf, dayOfDate, IsDateOf, IsDateOfDay};
 
+// A date, or why there is none.
 pub enum DateAnswer {
     On { year: u64, month: u64, day: u64 },
     NoDate(Refusal),
 }
 
+// The days of each month of a common year.
 const MONTH_LENGTHS: [u64; 12] = [31, 28, 31, 30, 31, 30, 31, 31, 30, 31, 30, 31];
 
+// The days of a common year before each month.
 const DAYS_BEFORE: [u64; 12] = [0, 31, 59, 90, 120, 151, 181, 212, 243, 273, 304, 334];
 
+// The days of a month.
 fn month_length(leap_year: bool, month: u64) -> u64
     requires { ⌜ (1 ≤ month) × (month ≤ 12) ⌝ }
     ensures { λ r. ⌜ r ≡ monthLength «leap_year» month ⌝ }
@@ -66,6 +70,7 @@ fn is_date(named: NamedYear, month: u64, day: u64) -> bool
     is_between(1, day, month_length(is_leap(named), month))
 }
 
+// The day number of a date.
 fn day_number(named: NamedYear, month: u64, day: u64) -> u64
     requires { ⌜ (served (named .style) (named .year) ≡ true) × (isDate (named .style) (named .year) month day ≡ true) ⌝ }
     ensures { λ r. ⌜ r ≡ dayNumber (named .style) (named .year) month day ⌝ }

@@ -8,12 +8,13 @@ ghost use Prim.Native.Nat.{_≤_};
 ghost use Rattle.calendar.specs.Date.{dayOfDate};
 ghost use Rattle.calendar.specs.Distance.{distance, distanceOf, distanceRefusal, distanceOrZero};
 
+// A distance in days, or why there is none.
 pub enum DistanceAnswer {
     Days(i32),
     NoDistance(Refusal),
 }
 
-// The second day less the first.
+// The second day less the first, of two days that some span has.
 fn days_between(first: u32, second: u32) -> i32
     requires { ⌜ (first ≤ 5373557) × (second ≤ 5373557) ⌝ }
     ensures { λ r. ⌜ r ≡ distance first second ⌝ }

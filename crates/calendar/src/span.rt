@@ -6,11 +6,13 @@ use crate::style::Style;
 ghost use mathlib.Core.Path.{_≡_};
 ghost use Rattle.calendar.specs.Span.{firstDay, lastDay, inSpan, within, dayOrRefusal};
 
+// A day, or why there is none.
 pub enum DayAnswer {
     Day(u32),
     NoDay(Refusal),
 }
 
+// The first day of a style's span.
 fn first_day(style: Style) -> u64
     ensures { λ r. ⌜ r ≡ firstDay style ⌝ }
 {
@@ -20,6 +22,7 @@ fn first_day(style: Style) -> u64
     }
 }
 
+// The last day of a style's span.
 fn last_day(style: Style) -> u64
     ensures { λ r. ⌜ r ≡ lastDay style ⌝ }
 {

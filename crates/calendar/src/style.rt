@@ -8,6 +8,7 @@ pub enum Style {
     Gregorian,
 }
 
+// A style, or why there is none.
 pub enum StyleAnswer {
     Known(Style),
     NoStyle(Refusal),

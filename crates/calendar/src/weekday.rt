@@ -8,6 +8,7 @@ use crate::style::style_of;
 ghost use mathlib.Core.Path.{_≡_};
 ghost use Rattle.calendar.specs.Weekday.{weekdayOf, weekdayOfDay, weekdayRefusal, weekdayOrZero};
 
+// A weekday, or why there is none.
 pub enum WeekdayAnswer {
     Weekday(u32),
     NoWeekday(Refusal),

@@ -33,6 +33,7 @@ pub(crate) fn is_leap(named: NamedYear) -> bool
     }
 }
 
+// The first served year of a style.
 fn first_year(style: Style) -> u64
     ensures { λ r. ⌜ r ≡ firstYear style ⌝ }
 {

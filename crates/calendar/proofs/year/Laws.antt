@@ -6,7 +6,7 @@ use native.Mathlib.Nat.{le-refl, zero-mul, suc-mul, add-mul, one-mul, div-add-mo
 use native.Mathlib.Numerals.{add-one}
 use native.Mathlib.Omega.{arith}
 use borrow.Author.Tests.{eqb-true, eqb-false}
-use Rattle.calendar.proofs.Counting.{rises, one-place}
+use Rattle.calendar.proofs.Counting.{rises, not-after, one-place}
 use Rattle.calendar.specs.Year.{divides, yearLength, daysOfYears, firstNewYear, newYear, YearOf}
 use Rattle.calendar.specs.declared.style.Style.the-variants.{Julian, Gregorian}
 use Rattle.calendar.specs.declared.style.Style.{Style}
@@ -100,6 +100,10 @@ grows s (suc n) = omega (arith, year-up s (suc n) (omega arith))
 
 pub new-year-rises : (s : Style) (y z : ℕ) → y ≤ z → newYear s y ≤ newYear s z
 new-year-rises s = rises (newYear s) (grows s)
+
+-- a year that begins by a day is not past one that ends after it
+pub year-not-after : (s : Style) (n y z : ℕ) → newYear s y ≤ n → n < newYear s (suc z) → y ≤ z
+year-not-after s n y z from to = not-after (newYear s) (grows s) y z n from to
 
 -- a day lies in one year only
 pub one-year : (s : Style) (n y z : ℕ) → YearOf s n y → YearOf s n z → y ≡ z
