@@ -135,6 +135,13 @@ fn ask_date_and_weekday(style: u64, day: u64) {
     ask_weekday(style, day);
 }
 
+// A day and its neighbours.
+fn ask_around(style: u64, day: u64) {
+    ask_date_and_weekday(style, std::num::wrapping_sub_u64(day, 1));
+    ask_date_and_weekday(style, day);
+    ask_date_and_weekday(style, std::num::wrapping_add_u64(day, 1));
+}
+
 fn ask_day_in_both_styles(year: u64, month: u64, day: u64) {
     ask_day(JULIAN, year, month, day);
     ask_day(GREGORIAN, year, month, day);
@@ -180,12 +187,8 @@ fn julian_span_ends() {
     ask_day(JULIAN, 9999, 12, 30);
     ask_day(JULIAN, 9999, 12, 31);
     ask_day(JULIAN, 10000, 1, 1);
-    ask_date_and_weekday(JULIAN, 1721423);
-    ask_date_and_weekday(JULIAN, 1721424);
-    ask_date_and_weekday(JULIAN, 1721425);
-    ask_date_and_weekday(JULIAN, 5373556);
-    ask_date_and_weekday(JULIAN, 5373557);
-    ask_date_and_weekday(JULIAN, 5373558);
+    ask_around(JULIAN, 1721424);
+    ask_around(JULIAN, 5373557);
 }
 
 fn gregorian_span_ends() {
@@ -196,12 +199,8 @@ fn gregorian_span_ends() {
     ask_day(GREGORIAN, 9999, 12, 30);
     ask_day(GREGORIAN, 9999, 12, 31);
     ask_day(GREGORIAN, 10000, 1, 1);
-    ask_date_and_weekday(GREGORIAN, 2299160);
-    ask_date_and_weekday(GREGORIAN, 2299161);
-    ask_date_and_weekday(GREGORIAN, 2299162);
-    ask_date_and_weekday(GREGORIAN, 5373483);
-    ask_date_and_weekday(GREGORIAN, 5373484);
-    ask_date_and_weekday(GREGORIAN, 5373485);
+    ask_around(GREGORIAN, 2299161);
+    ask_around(GREGORIAN, 5373484);
 }
 
 // The ends of one style's span in the other style, and the smallest numbers.
@@ -272,19 +271,13 @@ fn leap_days() {
 
 // The days around 29 February and around the end of a leap year.
 fn days_of_leap_years() {
-    ask_date_and_weekday(JULIAN, 1722577);
-    ask_date_and_weekday(JULIAN, 1722578);
-    ask_date_and_weekday(JULIAN, 1722579);
+    ask_around(JULIAN, 1722578);
     ask_date_and_weekday(JULIAN, 1722884);
     ask_date_and_weekday(JULIAN, 1722885);
-    ask_date_and_weekday(JULIAN, 2415091);
-    ask_date_and_weekday(JULIAN, 2415092);
-    ask_date_and_weekday(JULIAN, 2415093);
+    ask_around(JULIAN, 2415092);
     ask_date_and_weekday(GREGORIAN, 2415079);
     ask_date_and_weekday(GREGORIAN, 2415080);
-    ask_date_and_weekday(GREGORIAN, 2451603);
-    ask_date_and_weekday(GREGORIAN, 2451604);
-    ask_date_and_weekday(GREGORIAN, 2451605);
+    ask_around(GREGORIAN, 2451604);
     ask_date_and_weekday(GREGORIAN, 2451910);
     ask_date_and_weekday(GREGORIAN, 2451911);
 }

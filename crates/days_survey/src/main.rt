@@ -20,6 +20,15 @@ struct Walked {
     weekday: u64,
 }
 
+fn walked_to(year: u64, month: u64, day: u64, weekday: u64) -> Walked {
+    Walked {
+        year,
+        month,
+        day,
+        weekday,
+    }
+}
+
 // How many days were walked, how many agree with each call, and the date that comes next.
 struct Tally {
     days: u64,
@@ -57,36 +66,18 @@ fn next_weekday(weekday: u64) -> u64 {
     one_more(weekday)
 }
 
-fn next_date(style: u64, walked: Walked) -> Walked {
-    let year = walked.year;
-    let month = walked.month;
-    let day = walked.day;
-    let weekday = next_weekday(walked.weekday);
+fn next_date(style: u64, last: Walked) -> Walked {
+    let year = last.year;
+    let month = last.month;
+    let day = last.day;
+    let weekday = next_weekday(last.weekday);
     if day < days_of_month(style, year, month) {
-        let day = one_more(day);
-        return Walked {
-            year,
-            month,
-            day,
-            weekday,
-        };
+        return walked_to(year, month, one_more(day), weekday);
     }
     if month < 12 {
-        let month = one_more(month);
-        return Walked {
-            year,
-            month,
-            day: 1,
-            weekday,
-        };
+        return walked_to(year, one_more(month), 1, weekday);
     }
-    let year = one_more(year);
-    Walked {
-        year,
-        month: 1,
-        day: 1,
-        weekday,
-    }
+    walked_to(one_more(year), 1, 1, weekday)
 }
 
 fn same_date(style: u64, number: u64, walked: Walked) -> bool {
@@ -190,29 +181,10 @@ fn print_survey(letter: &[u8], tally: Tally) {
     print_next(next);
 }
 
-// From 1 January 1, a Saturday.
-fn survey_julian() {
-    let start = Walked {
-        year: 1,
-        month: 1,
-        day: 1,
-        weekday: 6,
-    };
-    print_survey(b"J", survey(JULIAN, 1721424, 5373557, start));
-}
-
-// From 15 October 1582, a Friday.
-fn survey_gregorian() {
-    let start = Walked {
-        year: 1582,
-        month: 10,
-        day: 15,
-        weekday: 5,
-    };
-    print_survey(b"G", survey(GREGORIAN, 2299161, 5373484, start));
-}
-
 fn main() {
-    survey_julian();
-    survey_gregorian();
+    // 1 January 1 J was a Saturday, and 15 October 1582 G a Friday.
+    let julian_start = walked_to(1, 1, 1, 6);
+    let gregorian_start = walked_to(1582, 10, 15, 5);
+    print_survey(b"J", survey(JULIAN, 1721424, 5373557, julian_start));
+    print_survey(b"G", survey(GREGORIAN, 2299161, 5373484, gregorian_start));
 }
