@@ -8,17 +8,16 @@ use lib.IntN.{ℤ, pos, natAbs}
 use borrow.Author.Tests.{le-leb, lt-leb}
 use Rattle.calendar.proofs.date.Laws as laws
 use Rattle.calendar.proofs.distance.Laws.{both-days, distance-size, zero-same-day, same-day-zero}
-use Rattle.calendar.specs.Date.{daysOfMonths, isDate, dayNumber, dayOf, dayOfDate, IsDateOf, IsDateOfDay, nextDate}
-use Rattle.calendar.specs.Distance.{distanceOf}
+use Rattle.calendar.specs.Date.{daysOfMonths, isDate, dayNumber, dayInYear, dayOfDate, IsDateInStyle, IsDateOfDay, nextDate}
+use Rattle.calendar.specs.Distance.{distanceOfDays}
 use Rattle.calendar.specs.Range.{between}
-use Rattle.calendar.specs.Span.{inSpan, within}
+use Rattle.calendar.specs.Span.{inSpan, within, dayOrRefusal}
 use Rattle.calendar.specs.Style.{styleNumber, styleOf, inStyle}
 use Rattle.calendar.specs.Year.{daysOfYears, newYear, served}
 use Rattle.calendar.specs.declared.date.DateAnswer.the-variants.{On, NoDate}
 use Rattle.calendar.specs.declared.date.DateAnswer.{DateAnswer}
 use Rattle.calendar.specs.declared.distance.DistanceAnswer.the-variants.{Days}
-use Rattle.calendar.specs.declared.refusal.Refusal.the-variants.{Year, Span}
-use Rattle.calendar.specs.declared.span.DayAnswer.the-variants.{Day, NoDay}
+use Rattle.calendar.specs.declared.span.DayAnswer.the-variants.{Day}
 use Rattle.calendar.specs.declared.span.DayAnswer.{DayAnswer}
 use Rattle.calendar.specs.declared.style.Style.the-variants.{Julian, Gregorian}
 use Rattle.calendar.specs.declared.style.Style.{Style}
@@ -31,12 +30,12 @@ unfolding styleOf
 by-number Julian = refl
 by-number Gregorian = refl
 
--- Any two answers that day to date may give are equal.
-one-in : (t : StyleAnswer) (n : ℕ) (r r′ : DateAnswer) → inStyle (λ x. r ≡ NoDate x) (λ s. IsDateOf s n r) t
-    → inStyle (λ x. r′ ≡ NoDate x) (λ s. IsDateOf s n r′) t → r ≡ r′
+one-in : (t : StyleAnswer) (n : ℕ) (r r′ : DateAnswer) → inStyle (λ x. r ≡ NoDate x) (λ s. IsDateInStyle s n r) t
+    → inStyle (λ x. r′ ≡ NoDate x) (λ s. IsDateInStyle s n r′) t → r ≡ r′
 one-in (Known s) n r r′ h h′ = laws.one-answer s n r r′ h h′
 one-in (NoStyle x) n r r′ h h′ = h ∙ sym h′
 
+-- Any two answers that day to date may give are equal.
 pub one-answer : (k n : ℕ) (r r′ : DateAnswer) → IsDateOfDay k n r → IsDateOfDay k n r′ → r ≡ r′
 one-answer k n r r′ h h′ = one-in (styleOf k) n r r′ h h′
 
@@ -71,20 +70,20 @@ next-date s n y m d r h i h′ =
     laws.one-answer s (n + 1) r (nextDate s y m d) (rw by-number at h′) (laws.next-date s n y m d (rw by-number at h) i)
 
 -- A G year below 1582 is refused by 4, whatever the month and the day.
-pub early-year : (y m d : ℕ) → y < 1582 → dayOfDate (styleNumber Gregorian) y m d ≡ NoDay Year
-unfolding styleOf dayOf served between
+pub early-year : (y m d : ℕ) → y < 1582 → dayOrRefusal (dayOfDate (styleNumber Gregorian) y m d) ≡ 4
+unfolding styleOf dayInYear served between
 early-year y m d h = rw (lt-leb 1582 y h)
 
 -- "5 to 14 October 1582 G are dates, but outside the span."
-pub lost-days : (d : ℕ) → 5 ≤ d → d ≤ 14 → (isDate Gregorian 1582 10 d ≡ true) × (dayOfDate (styleNumber Gregorian) 1582 10 d ≡ NoDay Span)
-unfolding styleOf dayOf served isDate within inSpan between dayNumber daysOfMonths newYear daysOfYears
+pub lost-days : (d : ℕ) → 5 ≤ d → d ≤ 14 → (isDate Gregorian 1582 10 d ≡ true) × (dayOrRefusal (dayOfDate (styleNumber Gregorian) 1582 10 d) ≡ 6)
+unfolding styleOf dayInYear served isDate within inSpan between dayNumber daysOfMonths newYear daysOfYears
 lost-days d low high = (
   rw (le-leb 1 d (omega arith), le-leb d 31 (omega arith)),
   rw (le-leb 1 d (omega arith), le-leb d 31 (omega arith), lt-leb 2299161 (2299147 + pred d) (omega arith)),
 )
 
 -- A distance lies from -3652133 to 3652133.
-pub distance-range : (k y m d k′ y′ m′ d′ : ℕ) (z : ℤ) → distanceOf (dayOfDate k y m d) (dayOfDate k′ y′ m′ d′) ≡ Days z → natAbs z ≤ 3652133
+pub distance-range : (k y m d k′ y′ m′ d′ : ℕ) (z : ℤ) → distanceOfDays (dayOfDate k y m d) (dayOfDate k′ y′ m′ d′) ≡ Days z → natAbs z ≤ 3652133
 distance-range k y m d k′ y′ m′ d′ z h =
     let r = both-days (dayOfDate k y m d) (dayOfDate k′ y′ m′ d′) z h in
     let p = laws.day-of-date-small k (r .0) y m d (r .2) in
@@ -92,5 +91,5 @@ distance-range k y m d k′ y′ m′ d′ z h =
     rw (sym (r .4)) (distance-size (r .0) (r .1) 3652133 (omega arith) (omega arith))
 
 -- A distance is 0 exactly when both dates have the same day.
-pub zero-distance : (p q : DayAnswer) → (distanceOf p q ≡ Days (pos 0)) ↔ ((n : ℕ) × (p ≡ Day n) × (q ≡ Day n))
+pub zero-distance : (p q : DayAnswer) → (distanceOfDays p q ≡ Days (pos 0)) ↔ ((n : ℕ) × (p ≡ Day n) × (q ≡ Day n))
 zero-distance p q = (zero-same-day p q, λ h. rw (h .1, h .2) (same-day-zero (h .0)))

@@ -1,5 +1,6 @@
 -- Claims and Known are what the calendar promises beyond its contracts; the rest are steps to them, each subject's in its folder.
 mod Counting
 mod Each
+mod Tested
 pub mod Claims
 pub mod Known

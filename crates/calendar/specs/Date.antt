@@ -31,12 +31,12 @@ unfoldable pub daysOfMonths : Bool → ℕ → ℕ
 daysOfMonths b zero = 0
 daysOfMonths b (suc n) = daysOfMonths b n + monthLength b (suc n)
 
--- the month m holds the day k of a year, counted from 0
-pub record MonthOf (b : Bool) (k m : ℕ) : Type 0 where
+-- the month m holds the day i of a year, counted from 0
+pub record MonthOf (b : Bool) (i m : ℕ) : Type 0 where
   pub low : 1 ≤ m
   pub high : m ≤ 12
-  pub from : daysOfMonths b (pred m) ≤ k
-  pub to : k < daysOfMonths b m
+  pub from : daysOfMonths b (pred m) ≤ i
+  pub to : i < daysOfMonths b m
 
 -- refusal 5: "no such month, or no such day in that month of that year"
 unfoldable pub isDate : Style → ℕ → ℕ → ℕ → Bool
@@ -46,25 +46,25 @@ isDate s y m d = between 1 m 12 && between 1 d (monthLength (leap s y) m)
 unfoldable pub dayNumber : Style → ℕ → ℕ → ℕ → ℕ
 dayNumber s y m d = newYear s y + daysOfMonths (leap s y) (pred m) + pred d
 
--- the day of a date of a named year, refused by 4, 5 or 6
-unfoldable pub dayOf : NamedYear → ℕ → ℕ → DayAnswer
-dayOf y m d =
-    unless (served (y .style) (y .year)) (NoDay Year)
-    (unless (isDate (y .style) (y .year) m d) (NoDay Date)
-    (within (y .style) (dayNumber (y .style) (y .year) m d)))
+-- the day of a date of the named year t, refused by 4, 5 or 6
+unfoldable pub dayInYear : NamedYear → ℕ → ℕ → DayAnswer
+dayInYear t m d =
+    unless (served (t .style) (t .year)) (NoDay Year)
+    (unless (isDate (t .style) (t .year) m d) (NoDay Date)
+    (within (t .style) (dayNumber (t .style) (t .year) m d)))
 
--- date to day: refused by 1, and else as in the style
+-- date to day in the style with the number k: refused by 1, and else as in the style
 abbrev pub dayOfDate : ℕ → ℕ → ℕ → ℕ → DayAnswer
-dayOfDate k y m d = inStyle NoDay (λ s. dayOf (named s y) m d) (styleOf k)
+dayOfDate k y m d = inStyle NoDay (λ s. dayInYear (named s y) m d) (styleOf k)
 
 -- what the date of a day may be: the date whose day it is, or 6 outside the span
-abbrev pub IsDateOf : Style → ℕ → DateAnswer → Type 0
-IsDateOf s n (On y m d) = dayOf (named s y) m d ≡ Day n
-IsDateOf s n (NoDate x) = (inSpan s n ≡ false) × (x ≡ Span)
+abbrev pub IsDateInStyle : Style → ℕ → DateAnswer → Type 0
+IsDateInStyle s n (On y m d) = dayInYear (named s y) m d ≡ Day n
+IsDateInStyle s n (NoDate x) = (inSpan s n ≡ false) × (x ≡ Span)
 
--- day to date: refused by 1, and else as in the style
+-- day to date in the style with the number k: refused by 1, and else as in the style
 abbrev pub IsDateOfDay : ℕ → ℕ → DateAnswer → Type 0
-IsDateOfDay k n r = inStyle (λ x. r ≡ NoDate x) (λ s. IsDateOf s n r) (styleOf k)
+IsDateOfDay k n r = inStyle (λ x. r ≡ NoDate x) (λ s. IsDateInStyle s n r) (styleOf k)
 
 -- the next date of the calendar: the next day of the month, or the first of the next month, or of the next year
 abbrev pub nextDate : Style → ℕ → ℕ → ℕ → DateAnswer

@@ -12,10 +12,10 @@ abbrev pub distance : ℕ → ℕ → ℤ
 distance a b = pos b -ℤ pos a
 
 -- "If both dates of a distance are bad, the first date's refusal is given"
-abbrev pub distanceOf : DayAnswer → DayAnswer → DistanceAnswer
-distanceOf (Day a) (Day b) = Days (distance a b)
-distanceOf (Day a) (NoDay x) = NoDistance x
-distanceOf (NoDay x) q = NoDistance x
+abbrev pub distanceOfDays : DayAnswer → DayAnswer → DistanceAnswer
+distanceOfDays (Day a) (Day b) = Days (distance a b)
+distanceOfDays (Day a) (NoDay x) = NoDistance x
+distanceOfDays (NoDay x) q = NoDistance x
 
 -- "one answers the refusal, or 0 if there is none"
 abbrev pub distanceRefusal : DistanceAnswer → ℕ

@@ -9,12 +9,12 @@ use Rattle.calendar.specs.declared.span.DayAnswer.{DayAnswer}
 use Rattle.calendar.specs.declared.style.Style.the-variants.{Julian, Gregorian}
 use Rattle.calendar.specs.declared.style.Style.{Style}
 
--- "First day"
+-- "First day" of the span
 abbrev pub firstDay : Style → ℕ
 firstDay Julian = 1721424
 firstDay Gregorian = 2299161
 
--- "Last day (31 December 9999)"
+-- "Last day (31 December 9999)" of the span
 abbrev pub lastDay : Style → ℕ
 lastDay Julian = 5373557
 lastDay Gregorian = 5373484

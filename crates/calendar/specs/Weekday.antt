@@ -13,12 +13,12 @@ abbrev pub weekday : ℕ → ℕ
 weekday n = n % 7 + 1
 
 -- "The call takes a style and a day of that style's span.": refused by 6
-abbrev pub weekdayOf : Style → ℕ → WeekdayAnswer
-weekdayOf s n = unless (inSpan s n) (NoWeekday Span) (Weekday (weekday n))
+abbrev pub weekdayInStyle : Style → ℕ → WeekdayAnswer
+weekdayInStyle s n = unless (inSpan s n) (NoWeekday Span) (Weekday (weekday n))
 
--- weekday: refused by 1, and else as in the style
+-- weekday in the style with the number k: refused by 1, and else as in the style
 abbrev pub weekdayOfDay : ℕ → ℕ → WeekdayAnswer
-weekdayOfDay k n = inStyle NoWeekday (λ s. weekdayOf s n) (styleOf k)
+weekdayOfDay k n = inStyle NoWeekday (λ s. weekdayInStyle s n) (styleOf k)
 
 -- "one answers the refusal, or 0 if there is none"
 abbrev pub weekdayRefusal : WeekdayAnswer → ℕ

@@ -11,9 +11,9 @@ use Rattle.calendar.specs.declared.year.NamedYear.{NamedYear}
 abbrev pub named : Style → ℕ → NamedYear
 named s y = record { style = s; year = y }
 
--- k divides y
+-- d divides y
 abbrev pub divides : ℕ → ℕ → Bool
-divides k y = eqb (y % k) 0
+divides d y = eqb (y % d) 0
 
 -- "A J year is leap when 4 divides it. A G year is leap when 4 divides it and 100 doesn't, or 400 does."
 abbrev pub leap : Style → ℕ → Bool

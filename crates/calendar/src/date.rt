@@ -16,7 +16,7 @@ ghost use mathlib.Core.Path.{_≡_};
 ghost use mathlib.Core.Bool.{true};
 ghost use Prim.Native.Nat.{pred, _≤_, _<_};
 ghost use Rattle.calendar.specs.Year.{served};
-ghost use Rattle.calendar.specs.Date.{monthLength, daysOfMonths, MonthOf, isDate, dayNumber, dayOf, dayOfDate, IsDateOf, IsDateOfDay};
+ghost use Rattle.calendar.specs.Date.{monthLength, daysOfMonths, MonthOf, isDate, dayNumber, dayInYear, dayOfDate, IsDateInStyle, IsDateOfDay};
 
 // A date, or why there is none.
 pub enum DateAnswer {
@@ -35,14 +35,14 @@ fn month_length(leap_year: bool, month: u64) -> u64
     requires { ⌜ (1 ≤ month) × (month ≤ 12) ⌝ }
     ensures { λ r. ⌜ r ≡ monthLength «leap_year» month ⌝ }
 {
+    let i = (month - 1) as usize;
+    let n = MONTH_LENGTHS[i];
     if month == 2 {
         if leap_year {
             return 29;
         }
-        return 28;
     }
-    let i = (month - 1) as usize;
-    MONTH_LENGTHS[i]
+    n
 }
 
 // The days of a year before a month.
@@ -79,8 +79,8 @@ fn day_number(named: NamedYear, month: u64, day: u64) -> u64
 }
 
 // The day of a date of a named year.
-pub fn day_of(named: NamedYear, month: u64, day: u64) -> DayAnswer
-    ensures { λ r. ⌜ r ≡ dayOf named month day ⌝ }
+pub fn day_in_year(named: NamedYear, month: u64, day: u64) -> DayAnswer
+    ensures { λ r. ⌜ r ≡ dayInYear named month day ⌝ }
 {
     if !is_served(named) {
         return DayAnswer::NoDay(Refusal::Year);
@@ -97,43 +97,43 @@ pub fn day_of_date(style: u64, year: u64, month: u64, day: u64) -> DayAnswer
     ensures { λ r. ⌜ r ≡ dayOfDate style year month day ⌝ }
 {
     match style_of(style) {
-        StyleAnswer::Known(known) => day_of(NamedYear { style: known, year }, month, day),
+        StyleAnswer::Known(known) => day_in_year(NamedYear { style: known, year }, month, day),
         StyleAnswer::NoStyle(refusal) => DayAnswer::NoDay(refusal),
     }
 }
 
-// The month that holds the day k of a year, counted from 0.
-fn month_at(leap_year: bool, k: u64) -> u64
-    requires { ⌜ k < daysOfMonths «leap_year» 12 ⌝ }
-    ensures { λ r. ⌜ MonthOf «leap_year» k r ⌝ }
+// The month that holds a day of a year, the year's days counted from 0.
+fn month_at(leap_year: bool, day_of_year: u64) -> u64
+    requires { ⌜ «day_of_year» < daysOfMonths «leap_year» 12 ⌝ }
+    ensures { λ r. ⌜ MonthOf «leap_year» «day_of_year» r ⌝ }
 {
-    let estimate = k / 32 + 1;
+    let estimate = day_of_year / 32 + 1;
     if estimate == 12 {
         return 12;
     }
     let next = days_before(leap_year, estimate + 1);
-    if next <= k {
+    if next <= day_of_year {
         return estimate + 1;
     }
     estimate
 }
 
 // The date of a day of a style.
-pub fn date_of(style: Style, day: u64) -> DateAnswer
-    ensures { λ r. ⌜ IsDateOf style day r ⌝ }
+pub fn date_in_style(style: Style, day: u64) -> DateAnswer
+    ensures { λ r. ⌜ IsDateInStyle style day r ⌝ }
 {
     if !is_in_span(style, day) {
         return DateAnswer::NoDate(Refusal::Span);
     }
     let year = year_at(style, day);
     let named = NamedYear { style, year };
-    let k = day - new_year(named);
+    let day_of_year = day - new_year(named);
     let leap_year = is_leap(named);
-    let month = month_at(leap_year, k);
+    let month = month_at(leap_year, day_of_year);
     DateAnswer::On {
         year,
         month,
-        day: k - days_before(leap_year, month) + 1,
+        day: day_of_year - days_before(leap_year, month) + 1,
     }
 }
 
@@ -142,7 +142,7 @@ pub fn date_of_day(style: u64, day: u64) -> DateAnswer
     ensures { λ r. ⌜ IsDateOfDay style day r ⌝ }
 {
     match style_of(style) {
-        StyleAnswer::Known(known) => date_of(known, day),
+        StyleAnswer::Known(known) => date_in_style(known, day),
         StyleAnswer::NoStyle(refusal) => DateAnswer::NoDate(refusal),
     }
 }

@@ -6,7 +6,7 @@ use crate::span::DayAnswer;
 ghost use mathlib.Core.Path.{_≡_};
 ghost use Prim.Native.Nat.{_≤_};
 ghost use Rattle.calendar.specs.Date.{dayOfDate};
-ghost use Rattle.calendar.specs.Distance.{distance, distanceOf, distanceRefusal, distanceOrZero};
+ghost use Rattle.calendar.specs.Distance.{distance, distanceOfDays, distanceRefusal, distanceOrZero};
 
 // A distance in days, or why there is none.
 pub enum DistanceAnswer {
@@ -35,7 +35,7 @@ pub fn distance_of_dates(
     month2: u64,
     day2: u64,
 ) -> DistanceAnswer
-    ensures { λ r. ⌜ r ≡ distanceOf (dayOfDate style1 year1 month1 day1) (dayOfDate style2 year2 month2 day2) ⌝ }
+    ensures { λ r. ⌜ r ≡ distanceOfDays (dayOfDate style1 year1 month1 day1) (dayOfDate style2 year2 month2 day2) ⌝ }
 {
     let first = match day_of_date(style1, year1, month1, day1) {
         DayAnswer::Day(day) => day,

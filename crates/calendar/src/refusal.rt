@@ -1,13 +1,20 @@
-// Why a call is refused.
+// Refusals and their numbers.
 ghost use mathlib.Core.Path.{_≡_};
 ghost use Rattle.calendar.specs.Refusal.{refusalNumber};
 
+// Why a call is refused.
 pub enum Refusal {
+    // A style or feast number is not in its list.
     Name,
+    // A line is empty or too long, or a buffer too short.
     Length,
+    // The grammar does not produce the line.
     Form,
+    // The year is not served.
     Year,
+    // The year has no such month, or the month no such day.
     Date,
+    // The day lies outside the style's span.
     Span,
 }
 

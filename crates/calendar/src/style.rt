@@ -3,6 +3,7 @@ use crate::refusal::Refusal;
 ghost use mathlib.Core.Path.{_≡_};
 ghost use Rattle.calendar.specs.Style.{styleLetter, styleOf};
 
+// A calendar by which dates are written.
 pub enum Style {
     Julian,
     Gregorian,

@@ -6,7 +6,7 @@ use crate::style::Style;
 use crate::style::StyleAnswer;
 use crate::style::style_of;
 ghost use mathlib.Core.Path.{_≡_};
-ghost use Rattle.calendar.specs.Weekday.{weekdayOf, weekdayOfDay, weekdayRefusal, weekdayOrZero};
+ghost use Rattle.calendar.specs.Weekday.{weekdayInStyle, weekdayOfDay, weekdayRefusal, weekdayOrZero};
 
 // A weekday, or why there is none.
 pub enum WeekdayAnswer {
@@ -15,8 +15,8 @@ pub enum WeekdayAnswer {
 }
 
 // The weekday of a day of a style.
-pub fn weekday_of(style: Style, day: u64) -> WeekdayAnswer
-    ensures { λ r. ⌜ r ≡ weekdayOf style day ⌝ }
+pub fn weekday_in_style(style: Style, day: u64) -> WeekdayAnswer
+    ensures { λ r. ⌜ r ≡ weekdayInStyle style day ⌝ }
 {
     if !is_in_span(style, day) {
         return WeekdayAnswer::NoWeekday(Refusal::Span);
@@ -29,7 +29,7 @@ pub fn weekday_of_day(style: u64, day: u64) -> WeekdayAnswer
     ensures { λ r. ⌜ r ≡ weekdayOfDay style day ⌝ }
 {
     match style_of(style) {
-        StyleAnswer::Known(known) => weekday_of(known, day),
+        StyleAnswer::Known(known) => weekday_in_style(known, day),
         StyleAnswer::NoStyle(refusal) => WeekdayAnswer::NoWeekday(refusal),
     }
 }

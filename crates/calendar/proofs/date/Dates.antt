@@ -87,10 +87,11 @@ one-date s n y m d y′ m′ d′ h g =
     let same-day : d ≡ d′ = omega (arith, h .number, g .number, h .date, g .date) in
     rw (same-year, same-month, same-day)
 
--- the date that a day's year and month give
+-- a day of a year is one of its months' days
 pub in-year : (s : Style) (n y : ℕ) → YearOf s n y → n - newYear s y < daysOfMonths (leap s y) 12
 in-year s n y h = rw year-days (omega (arith, year-up s y (h .one)))
 
+-- the date that a day's year and month give
 pub found : (s : Style) (n y m : ℕ) → YearOf s n y → MonthOf (leap s y) (n - newYear s y) m
     → Dated s n y m (n - newYear s y - daysOfMonths (leap s y) (pred m) + 1)
 unfolding dayNumber
@@ -139,7 +140,7 @@ next-of s n y m d false false h p q =
 pub next-dated : (s : Style) (n y m d : ℕ) → Dated s n y m d → DatedOn s (n + 1) (nextDate s y m d)
 next-dated s n y m d h = next-of s n y m d _ _ h refl refl
 
--- every day from 1 January 1 on has a date, counted on by the next date
+-- n is the day of some date
 abbrev pub HasDate : Style → ℕ → Type 0
 HasDate s n = (y : ℕ) × (m : ℕ) × (d : ℕ) × Dated s n y m d
 
@@ -155,6 +156,7 @@ counted-on s (suc k) =
     let e : n + 1 ≡ newYear s 1 + suc k = omega arith in
     rw e at (holds-date s (n + 1) (nextDate s (h .0) (h .1) (h .2)) (next-dated s n (h .0) (h .1) (h .2) (h .3)))
 
+-- every day from 1 January 1 on has a date, counted on by the next date
 pub every-day : (s : Style) (n : ℕ) → newYear s 1 ≤ n → HasDate s n
 every-day s n h =
     let e : newYear s 1 + (n - newYear s 1) ≡ n = omega arith in

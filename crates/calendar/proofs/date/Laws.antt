@@ -2,11 +2,10 @@
 use mathlib.Core.Bool.{true, true≢false}
 use mathlib.Core.Path.{_≡_, refl, sym, _∙_}
 use Prim.Native.Nat.{ℕ, _+_, _≤_}
-use native.Mathlib.Omega.{arith}
 use Rattle.calendar.proofs.date.Dates.{date-bounds, bounds-date, Dated, DatedOn, year-of, one-date, next-dated, every-day}
-use Rattle.calendar.proofs.refusal.Laws.{passed}
+use Rattle.calendar.proofs.refusal.Laws.{no-day, passed}
 use Rattle.calendar.proofs.span.Laws.{span-small, served-small, year-served, after-start}
-use Rattle.calendar.specs.Date.{isDate, dayNumber, dayOf, dayOfDate, IsDateOf, nextDate}
+use Rattle.calendar.specs.Date.{isDate, dayNumber, dayInYear, dayOfDate, IsDateInStyle, nextDate}
 use Rattle.calendar.specs.Span.{inSpan, within}
 use Rattle.calendar.specs.Style.{styleOf, inStyle}
 use Rattle.calendar.specs.Year.{named, served}
@@ -19,8 +18,8 @@ use Rattle.calendar.specs.declared.style.StyleAnswer.the-variants.{Known
 use Rattle.calendar.specs.declared.style.StyleAnswer.{StyleAnswer}
 
 -- a date that is answered with a day is the date of that day, which lies in the span
-pub dated : (s : Style) (n y m d : ℕ) → dayOf (named s y) m d ≡ Day n → (inSpan s n ≡ true) × Dated s n y m d
-unfolding dayOf within
+pub dated : (s : Style) (n y m d : ℕ) → dayInYear (named s y) m d ≡ Day n → (inSpan s n ≡ true) × Dated s n y m d
+unfolding dayInYear within
 dated s n y m d e =
     let p = passed (served s y) Year _ n e in
     let q = passed (isDate s y m d) Date _ n (p .1) in
@@ -29,38 +28,38 @@ dated s n y m d e =
     (rw number at (r .0), record { year = served-small s y (p .0) .0; date = date-bounds s y m d (q .0); number = number })
 
 -- and the date of a day of the span is answered with it: its year is served
-pub has-day : (s : Style) (n y m d : ℕ) → inSpan s n ≡ true → Dated s n y m d → dayOf (named s y) m d ≡ Day n
-unfolding dayOf within
+pub has-day : (s : Style) (n y m d : ℕ) → inSpan s n ≡ true → Dated s n y m d → dayInYear (named s y) m d ≡ Day n
+unfolding dayInYear within
 has-day s n y m d i h = rw (year-served s n y i (year-of s n y m d h), bounds-date s y m d (h .date), h .number, i)
 
 -- any two answers that day to date may give are equal
-pub one-answer : (s : Style) (n : ℕ) (a b : DateAnswer) → IsDateOf s n a → IsDateOf s n b → a ≡ b
+pub one-answer : (s : Style) (n : ℕ) (a b : DateAnswer) → IsDateInStyle s n a → IsDateInStyle s n b → a ≡ b
 one-answer s n (On y m d) (On y′ m′ d′) p q = one-date s n y m d y′ m′ d′ (dated s n y m d p .1) (dated s n y′ m′ d′ q .1)
 one-answer s n (On y m d) (NoDate x) p q = absurd (true≢false (sym (dated s n y m d p .0) ∙ q .0))
 one-answer s n (NoDate x) (On y m d) p q = absurd (true≢false (sym (dated s n y m d q .0) ∙ p .0))
 one-answer s n (NoDate x) (NoDate x′) p q = rw (p .1, q .1)
 
 -- every day of the span has a date
-pub has-date : (s : Style) (n : ℕ) → inSpan s n ≡ true → (y : ℕ) × (m : ℕ) × (d : ℕ) × (dayOf (named s y) m d ≡ Day n)
+pub has-date : (s : Style) (n : ℕ) → inSpan s n ≡ true → (y : ℕ) × (m : ℕ) × (d : ℕ) × (dayInYear (named s y) m d ≡ Day n)
 has-date s n i =
     let h = every-day s n (after-start s n i) in
     (h .0, h .1, h .2, has-day s n (h .0) (h .1) (h .2) i (h .3))
 
--- the date of the next day is the next date
-of-span : (s : Style) (n : ℕ) (a : DateAnswer) → inSpan s n ≡ true → DatedOn s n a → IsDateOf s n a
+of-span : (s : Style) (n : ℕ) (a : DateAnswer) → inSpan s n ≡ true → DatedOn s n a → IsDateInStyle s n a
 of-span s n (On y m d) i h = has-day s n y m d i h
 of-span s n (NoDate x) i h = absurd h
 
-pub next-date : (s : Style) (n y m d : ℕ) → IsDateOf s n (On y m d) → inSpan s (n + 1) ≡ true → IsDateOf s (n + 1) (nextDate s y m d)
+-- the date of the next day is the next date
+pub next-date : (s : Style) (n y m d : ℕ) → IsDateInStyle s n (On y m d) → inSpan s (n + 1) ≡ true → IsDateInStyle s (n + 1) (nextDate s y m d)
 next-date s n y m d h i = of-span s (n + 1) (nextDate s y m d) i (next-dated s n y m d (dated s n y m d h .1))
 
 -- a style's number that is answered with a day names a style
-known-in : (t : StyleAnswer) (n y m d : ℕ) → inStyle NoDay (λ s. dayOf (named s y) m d) t ≡ Day n
-    → (s : Style) × (t ≡ Known s) × (dayOf (named s y) m d ≡ Day n)
+known-in : (t : StyleAnswer) (n y m d : ℕ) → inStyle NoDay (λ s. dayInYear (named s y) m d) t ≡ Day n
+    → (s : Style) × (t ≡ Known s) × (dayInYear (named s y) m d ≡ Day n)
 known-in (Known s) n y m d e = (s, refl, e)
-known-in (NoStyle x) n y m d e = let o : _≡_ {A = ℕ} 0 1 = cc in absurd (omega arith)
+known-in (NoStyle x) n y m d e = no-day x n e
 
-pub known-style : (k n y m d : ℕ) → dayOfDate k y m d ≡ Day n → (s : Style) × (styleOf k ≡ Known s) × (dayOf (named s y) m d ≡ Day n)
+pub known-style : (k n y m d : ℕ) → dayOfDate k y m d ≡ Day n → (s : Style) × (styleOf k ≡ Known s) × (dayInYear (named s y) m d ≡ Day n)
 known-style k n y m d e = known-in (styleOf k) n y m d e
 
 pub day-of-date-small : (k n y m d : ℕ) → dayOfDate k y m d ≡ Day n → (1721424 ≤ n) × (n ≤ 5373557)

@@ -52,46 +52,46 @@ months-small true m h = omega (arith, months-rise true m 12 h, year-days true)
 months-small false m h = omega (arith, months-rise false m 12 h, year-days false)
 
 -- a day lies in one month only
-pub one-month : (b : Bool) (k m n : ℕ) → MonthOf b k m → MonthOf b k n → m ≡ n
-one-month b k m n h g =
+pub one-month : (b : Bool) (i m n : ℕ) → MonthOf b i m → MonthOf b i n → m ≡ n
+one-month b i m n h g =
     let p : suc (pred m) ≡ m = omega arith in
     let q : suc (pred n) ≡ n = omega arith in
-    omega (arith, one-place (daysOfMonths b) (grows b) (pred m) (pred n) k (h .from) (rw p (h .to)) (g .from) (rw q (g .to)))
+    omega (arith, one-place (daysOfMonths b) (grows b) (pred m) (pred n) i (h .from) (rw p (h .to)) (g .from) (rw q (g .to)))
 
 -- the estimate of a day's month by months of 32 days is that month or the one before
 estimate-test : Bool → ℕ → Bool
-estimate-test b k = leb (daysOfMonths b (k / 32)) k && ltb k (daysOfMonths b (k / 32 + 2))
+estimate-test b i = leb (daysOfMonths b (i / 32)) i && ltb i (daysOfMonths b (i / 32 + 2))
 
-estimate-tested : (b : Bool) (k : ℕ) → k < daysOfMonths b 12 → T (estimate-test b k)
+estimate-tested : (b : Bool) (i : ℕ) → i < daysOfMonths b 12 → T (estimate-test b i)
 unfolding estimate-test daysOfMonths
-estimate-tested true k h = below (estimate-test true) 366 tt k h
-estimate-tested false k h = below (estimate-test false) 365 tt k h
+estimate-tested true i h = below (estimate-test true) 366 tt i h
+estimate-tested false i h = below (estimate-test false) 365 tt i h
 
-pub month-estimated : (b : Bool) (k : ℕ) → k < daysOfMonths b 12 → (daysOfMonths b (k / 32) ≤ k) × (k < daysOfMonths b (k / 32 + 2))
+pub month-estimated : (b : Bool) (i : ℕ) → i < daysOfMonths b 12 → (daysOfMonths b (i / 32) ≤ i) × (i < daysOfMonths b (i / 32 + 2))
 unfolding estimate-test
-month-estimated b k h =
-    let t = T-both (leb (daysOfMonths b (k / 32)) k) (ltb k (daysOfMonths b (k / 32 + 2))) (estimate-tested b k h) in
+month-estimated b i h =
+    let t = T-both (leb (daysOfMonths b (i / 32)) i) (ltb i (daysOfMonths b (i / 32 + 2))) (estimate-tested b i h) in
     (leb→le _ _ (t .0), ltb→lt _ _ (t .1))
 
 -- the month behind q whole months, and the one correction of the estimate
-month-is : (b : Bool) (k q : ℕ) → q < 12 → daysOfMonths b q ≤ k → k < daysOfMonths b (q + 1) → MonthOf b k (q + 1)
-month-is b k q h from to =
+month-is : (b : Bool) (i q : ℕ) → q < 12 → daysOfMonths b q ≤ i → i < daysOfMonths b (q + 1) → MonthOf b i (q + 1)
+month-is b i q h from to =
     let e : pred (q + 1) ≡ q = omega arith in
     record { low = omega arith; high = omega arith; from = rw e from; to = to }
 
-module _ (b : Bool) (k : ℕ) (h : k < daysOfMonths b 12) where
-  pub last-month : k / 32 + 1 ≡ 12 → MonthOf b k 12
+module _ (b : Bool) (i : ℕ) (h : i < daysOfMonths b 12) where
+  pub last-month : i / 32 + 1 ≡ 12 → MonthOf b i 12
   last-month e =
-      let q : k / 32 ≡ 11 = omega arith in
-      month-is b k 11 (omega arith) (rw q at (month-estimated b k h .0)) h
+      let q : i / 32 ≡ 11 = omega arith in
+      month-is b i 11 (omega arith) (rw q at (month-estimated b i h .0)) h
 
-  pub this-month : k / 32 + 1 < 12 → k < daysOfMonths b (pred (k / 32 + 1 + 1)) → MonthOf b k (k / 32 + 1)
+  pub this-month : i / 32 + 1 < 12 → i < daysOfMonths b (pred (i / 32 + 1 + 1)) → MonthOf b i (i / 32 + 1)
   this-month l g =
-      let e : pred (k / 32 + 1 + 1) ≡ k / 32 + 1 = omega arith in
-      month-is b k (k / 32) (omega arith) (month-estimated b k h .0) (rw e at g)
+      let e : pred (i / 32 + 1 + 1) ≡ i / 32 + 1 = omega arith in
+      month-is b i (i / 32) (omega arith) (month-estimated b i h .0) (rw e at g)
 
-  pub next-month : k / 32 + 1 < 12 → daysOfMonths b (pred (k / 32 + 1 + 1)) ≤ k → MonthOf b k (k / 32 + 1 + 1)
+  pub next-month : i / 32 + 1 < 12 → daysOfMonths b (pred (i / 32 + 1 + 1)) ≤ i → MonthOf b i (i / 32 + 1 + 1)
   next-month l g =
-      let e : pred (k / 32 + 1 + 1) ≡ k / 32 + 1 = omega arith in
-      let two : k / 32 + 2 ≡ k / 32 + 1 + 1 = omega arith in
-      month-is b k (k / 32 + 1) l (rw e at g) (rw two at (month-estimated b k h .1))
+      let e : pred (i / 32 + 1 + 1) ≡ i / 32 + 1 = omega arith in
+      let two : i / 32 + 2 ≡ i / 32 + 1 + 1 = omega arith in
+      month-is b i (i / 32 + 1) l (rw e at g) (rw two at (month-estimated b i h .1))

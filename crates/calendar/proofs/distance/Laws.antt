@@ -10,7 +10,7 @@ use lib.Signed.{mag}
 use mir.Syntax.{w32}
 use mir.Val.{SFits}
 use borrow.Author.Tests.{ltb-true}
-use Rattle.calendar.specs.Distance.{distance, distanceOf}
+use Rattle.calendar.specs.Distance.{distance, distanceOfDays}
 use Rattle.calendar.specs.declared.distance.DistanceAnswer.the-variants.{Days}
 use Rattle.calendar.specs.declared.span.DayAnswer.the-variants.{Day, NoDay}
 use Rattle.calendar.specs.declared.span.DayAnswer.{DayAnswer}
@@ -29,22 +29,22 @@ mag-small (pos n) = le-refl n
 mag-small (negsuc n) = omega arith
 
 -- a distance has two days
-pub both-days : (p q : DayAnswer) (z : ℤ) → distanceOf p q ≡ Days z → (a : ℕ) × (b : ℕ) × (p ≡ Day a) × (q ≡ Day b) × (distance a b ≡ z)
+pub both-days : (p q : DayAnswer) (z : ℤ) → distanceOfDays p q ≡ Days z → (a : ℕ) × (b : ℕ) × (p ≡ Day a) × (q ≡ Day b) × (distance a b ≡ z)
 both-days (Day a) (Day b) z e = (a, b, refl, refl, cc)
 both-days (Day a) (NoDay x) z e = let o : _≡_ {A = ℕ} 0 1 = cc in absurd (omega arith)
 both-days (NoDay x) q z e = let o : _≡_ {A = ℕ} 0 1 = cc in absurd (omega arith)
 
-pub zero-same-day : (p q : DayAnswer) → distanceOf p q ≡ Days (pos 0) → (n : ℕ) × (p ≡ Day n) × (q ≡ Day n)
+pub zero-same-day : (p q : DayAnswer) → distanceOfDays p q ≡ Days (pos 0) → (n : ℕ) × (p ≡ Day n) × (q ≡ Day n)
 zero-same-day p q e =
     let r = both-days p q (pos 0) e in
     let same : pos (r .1) ≡ pos (r .0) = rw (← -ℤ-+ℤ-cancel (pos (r .1)) (pos (r .0)), r .4) (+ℤ-idl (pos (r .0))) in
     let same-day : r .1 ≡ r .0 = cc in
     (r .0, r .2, r .3 ∙ ap Day same-day)
 
-pub same-day-zero : (n : ℕ) → distanceOf (Day n) (Day n) ≡ Days (pos 0)
+pub same-day-zero : (n : ℕ) → distanceOfDays (Day n) (Day n) ≡ Days (pos 0)
 same-day-zero n = ap Days (+ℤ-invr (pos n))
 
--- a distance of days fits the code's 32 bits
+-- a distance of days fits 32 bits
 pub distance-fits : (a b : ℕ) → a ≤ 5373557 → b ≤ 5373557 → SFits w32 (distance a b)
 distance-fits a b h g =
     record { sfits = omega (arith, mag-small (distance a b), distance-size a b 5373557 (omega arith) (omega arith)) }

@@ -1,5 +1,3 @@
--- `days_cases::unsigned` is safe and ends: a number that is not below 0 can be cast.
--- Assumes nothing.
 use mathlib.Core.Bool.{false, true≢false}
 use mathlib.Core.Path.{_≡_}
 use lib.Dec.{T}

@@ -1,5 +1,3 @@
--- `days_survey::survey` is safe and ends: the days that are left grow fewer.
--- Assumes nothing.
 use Prim.Native.Nat.{_-_}
 use native.Mathlib.Omega.{arith}
 use borrow.Author.Needs.{needs}

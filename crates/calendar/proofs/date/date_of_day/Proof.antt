@@ -3,7 +3,7 @@ use Rattle.calendar.proofs.date.date_of_day.Statement.{statement}
 use Rattle.calendar.proofs.date.date_of_day.Tie as tie
 
 returns : tie.Need-returns
-returns c = rw (← c .before .before .before .before .style-of .ensures, c .before .before .known .given .1) (c .date-of .ensures)
+returns c = rw (← c .before .before .before .before .style-of .ensures, c .before .before .known .given .1) (c .date-in-style .ensures)
 
 returns-2 : tie.Need-returns-2
 returns-2 c = rw (← c .before .before .before .style-of .ensures, c .before .refusal .given .1)

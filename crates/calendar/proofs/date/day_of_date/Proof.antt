@@ -3,7 +3,7 @@ use Rattle.calendar.proofs.date.day_of_date.Statement.{statement}
 use Rattle.calendar.proofs.date.day_of_date.Tie as tie
 
 returns : tie.Need-returns
-returns c = rw (c .day-of .ensures, ← c .before .before .before .before .style-of .ensures, c .before .before .known .given .1)
+returns c = rw (c .day-in-year .ensures, ← c .before .before .before .before .style-of .ensures, c .before .before .known .given .1)
 
 returns-2 : tie.Need-returns-2
 returns-2 c = rw (← c .before .before .before .style-of .ensures, c .before .refusal .given .1)

@@ -8,11 +8,6 @@ use Rattle.calendar.proofs.date.Months.{before-counted, months-small}
 use Rattle.calendar.proofs.date.days_before.Statement.{statement}
 use Rattle.calendar.proofs.date.days_before.Tie as tie
 
-add-result : tie.Need-add-result
-add-result c =
-    let k = c .before .before .args .month - 1 in
-    omega (arith, before-counted true k (omega arith), months-small true k (omega arith))
-
 returns : tie.Need-returns
 returns c =
     let k = c .before .before .args .month - 1 in
@@ -27,6 +22,11 @@ returns-3 : tie.Need-returns-3
 returns-3 c =
     let k = c .before .args .month - 1 in
     rw (c .if1 .left, ← sub-one, ← before-counted false k (omega arith)) (omega arith)
+
+add-result : tie.Need-add-result
+add-result c =
+    let k = c .before .before .args .month - 1 in
+    omega (arith, before-counted true k (omega arith), months-small true k (omega arith))
 
 pub days-before-spec : {M : Type 1} → statement M
 days-before-spec =

@@ -1,7 +1,7 @@
 use mathlib.Core.Bool.{true}
-use mathlib.Core.Path.{_≡_, sym, _∙_}
+use mathlib.Core.Path.{_≡_}
 use borrow.Author.Needs.{needs}
-use borrow.Author.Tests.{not-true, not-false}
+use Rattle.calendar.proofs.Tested.{failed, held}
 use Rattle.calendar.proofs.range.Laws.{range}
 use Rattle.calendar.specs.Date.{isDate}
 use Rattle.calendar.specs.Range.{between}
@@ -10,10 +10,10 @@ use Rattle.calendar.proofs.date.is_date.Tie as tie
 
 returns : tie.Need-returns
 unfolding isDate
-returns c = rw (sym (c .before .is-between .ensures) ∙ not-true _ (c .if1 .taken))
+returns c = rw (failed (c .before .is-between .ensures) (c .if1 .taken))
 
 month-is : (c : tie.Else1) → between 1 (c .before .before .args .month) 12 ≡ true
-month-is c = sym (c .before .is-between .ensures) ∙ not-false _ (c .if1 .left)
+month-is c = held (c .before .is-between .ensures) (c .if1 .left)
 
 month-length-requires : tie.Need-month-length-requires
 month-length-requires c κs = range _ _ _ (month-is (c .before))

@@ -8,7 +8,7 @@ use Rattle.calendar.proofs.date.month_at.Tie as tie
 returns : tie.Need-returns
 returns c = last-month _ _ (c .before .pre) (c .if1 .taken)
 
-before-last : (c : tie.Else1) → c .before .args .k / 32 + 1 < 12
+before-last : (c : tie.Else1) → c .before .args .day-of-year / 32 + 1 < 12
 before-last c = omega (arith, c .before .pre, c .if1 .left, months-small (c .before .args .leap-year) 12 (omega arith))
 
 days-before-requires : tie.Need-days-before-requires

@@ -1,8 +1,8 @@
 use mathlib.Core.Bool.{true}
-use mathlib.Core.Path.{_≡_, sym, _∙_}
+use mathlib.Core.Path.{_≡_}
 use native.Mathlib.Omega.{arith}
 use borrow.Author.Needs.{needs}
-use borrow.Author.Tests.{not-true, not-false}
+use Rattle.calendar.proofs.Tested.{failed, held}
 use Rattle.calendar.proofs.span.Laws.{span-small}
 use Rattle.calendar.specs.Span.{inSpan, within}
 use Rattle.calendar.proofs.span.day_within.Statement.{statement}
@@ -10,10 +10,10 @@ use Rattle.calendar.proofs.span.day_within.Tie as tie
 
 returns : tie.Need-returns
 unfolding within
-returns c = rw (sym (c .before .is-in-span .ensures) ∙ not-true _ (c .if1 .taken))
+returns c = rw (failed (c .before .is-in-span .ensures) (c .if1 .taken))
 
 day-is : (c : tie.Else1) → inSpan (c .before .before .args .style) (c .before .before .args .day) ≡ true
-day-is c = sym (c .before .is-in-span .ensures) ∙ not-false _ (c .if1 .left)
+day-is c = held (c .before .is-in-span .ensures) (c .if1 .left)
 
 cast-t6 : tie.Need-cast-t6
 cast-t6 c = omega (arith, span-small _ _ (day-is c))

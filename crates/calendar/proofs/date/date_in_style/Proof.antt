@@ -1,20 +1,20 @@
 use mathlib.Core.Bool.{true}
-use mathlib.Core.Path.{_≡_, refl, sym, _∙_}
+use mathlib.Core.Path.{_≡_, refl}
 use native.Mathlib.Omega.{arith}
 use borrow.Author.Needs.{needs}
-use borrow.Author.Tests.{not-true, not-false}
+use Rattle.calendar.proofs.Tested.{failed, held}
 use Rattle.calendar.proofs.date.Dates.{in-year, found}
 use Rattle.calendar.proofs.date.Laws.{has-day}
 use Rattle.calendar.proofs.span.Laws.{span-small, served-small, year-served}
 use Rattle.calendar.specs.Span.{inSpan}
-use Rattle.calendar.proofs.date.date_of.Statement.{statement}
-use Rattle.calendar.proofs.date.date_of.Tie as tie
+use Rattle.calendar.proofs.date.date_in_style.Statement.{statement}
+use Rattle.calendar.proofs.date.date_in_style.Tie as tie
 
 returns : tie.Need-returns
-returns c = (sym (c .before .is-in-span .ensures) ∙ not-true _ (c .if1 .taken), refl)
+returns c = (failed (c .before .is-in-span .ensures) (c .if1 .taken), refl)
 
 day-is : (c : tie.Else1) → inSpan (c .before .before .args .style) (c .before .before .args .day) ≡ true
-day-is c = sym (c .before .is-in-span .ensures) ∙ not-false _ (c .if1 .left)
+day-is c = held (c .before .is-in-span .ensures) (c .if1 .left)
 
 year-at-requires : tie.Need-year-at-requires
 year-at-requires c κs = day-is c
@@ -35,8 +35,8 @@ returns-2 c =
     (found _ _ _ _ (c .before .before .before .before .year-at .ensures)
     (rw (c .before .before .is-leap .ensures, c .before .before .before .new-year .ensures) at (c .before .month-at .ensures))))
 
-pub date-of-spec : {M : Type 1} → statement M
-date-of-spec =
+pub date-in-style-spec : {M : Type 1} → statement M
+date-in-style-spec =
     tie.close
     (tie.spec
     (λ c κs. search needs)

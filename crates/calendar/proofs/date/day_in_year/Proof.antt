@@ -1,35 +1,35 @@
 use mathlib.Core.Bool.{true}
-use mathlib.Core.Path.{_≡_, sym, _∙_}
+use mathlib.Core.Path.{_≡_}
 use borrow.Author.Needs.{needs}
-use borrow.Author.Tests.{not-true, not-false}
-use Rattle.calendar.specs.Date.{isDate, dayOf}
+use Rattle.calendar.proofs.Tested.{failed, held}
+use Rattle.calendar.specs.Date.{isDate, dayInYear}
 use Rattle.calendar.specs.Year.{served}
-use Rattle.calendar.proofs.date.day_of.Statement.{statement}
-use Rattle.calendar.proofs.date.day_of.Tie as tie
+use Rattle.calendar.proofs.date.day_in_year.Statement.{statement}
+use Rattle.calendar.proofs.date.day_in_year.Tie as tie
 
 returns : tie.Need-returns
-unfolding dayOf
-returns c = rw (sym (c .before .is-served .ensures) ∙ not-true _ (c .if1 .taken))
+unfolding dayInYear
+returns c = rw (failed (c .before .is-served .ensures) (c .if1 .taken))
 
 year-is : (c : tie.Else1) → served (c .before .before .args .named .style) (c .before .before .args .named .year) ≡ true
-year-is c = sym (c .before .is-served .ensures) ∙ not-false _ (c .if1 .left)
+year-is c = held (c .before .is-served .ensures) (c .if1 .left)
 
 returns-2 : tie.Need-returns-2
-unfolding dayOf
-returns-2 c = rw (year-is (c .before .before), sym (c .before .is-date .ensures) ∙ not-true _ (c .if2 .taken))
+unfolding dayInYear
+returns-2 c = rw (year-is (c .before .before), failed (c .before .is-date .ensures) (c .if2 .taken))
 
 date-is : (c : tie.Else2) → isDate (c .before .before .before .before .args .named .style) (c .before .before .before .before .args .named .year) (c .before .before .before .before .args .month) (c .before .before .before .before .args .day) ≡ true
-date-is c = sym (c .before .is-date .ensures) ∙ not-false _ (c .if2 .left)
+date-is c = held (c .before .is-date .ensures) (c .if2 .left)
 
 day-number-requires : tie.Need-day-number-requires
 day-number-requires c κs = (year-is (c .before .before), date-is c)
 
 returns-3 : tie.Need-returns-3
-unfolding dayOf
+unfolding dayInYear
 returns-3 c = rw (year-is (c .before .before .before .before), date-is (c .before .before), c .day-within .ensures, c .before .day-number .ensures)
 
-pub day-of-spec : {M : Type 1} → statement M
-day-of-spec =
+pub day-in-year-spec : {M : Type 1} → statement M
+day-in-year-spec =
     tie.close
     (tie.spec
     (λ c κs. search needs)
