@@ -4,7 +4,7 @@ use crate::refusal::Refusal;
 use crate::refusal::refusal_number;
 use crate::style::Style;
 ghost use mathlib.Core.Path.{_≡_};
-ghost use Rattle.calendar.specs.Span.{firstDay, lastDay, inSpan, within, dayOrRefusal};
+ghost use Rattle.calendar.specs.Span.{inSpan, within, dayOrRefusal};
 
 // A day, or why there is none.
 pub enum DayAnswer {
@@ -12,31 +12,14 @@ pub enum DayAnswer {
     NoDay(Refusal),
 }
 
-// The first day of a style's span.
-fn first_day(style: Style) -> u64
-    ensures { λ r. ⌜ r ≡ firstDay style ⌝ }
-{
-    match style {
-        Style::Julian => 1721424,
-        Style::Gregorian => 2299161,
-    }
-}
-
-// The last day of a style's span.
-fn last_day(style: Style) -> u64
-    ensures { λ r. ⌜ r ≡ lastDay style ⌝ }
-{
-    match style {
-        Style::Julian => 5373557,
-        Style::Gregorian => 5373484,
-    }
-}
-
 // Whether a day lies in the style's span.
 pub(crate) fn is_in_span(style: Style, day: u64) -> bool
     ensures { λ r. ⌜ r ≡ inSpan style day ⌝ }
 {
-    is_between(first_day(style), day, last_day(style))
+    match style {
+        Style::Julian => is_between(1721424, day, 5373557),
+        Style::Gregorian => is_between(2299161, day, 5373484),
+    }
 }
 
 // The day itself where the span has it.

@@ -5,7 +5,7 @@ ghost use mathlib.Core.Path.{_≡_};
 ghost use mathlib.Core.Bool.{true};
 ghost use Prim.Native.Nat.{_+_, _≤_, _<_};
 ghost use Rattle.calendar.specs.Span.{inSpan};
-ghost use Rattle.calendar.specs.Year.{leap, firstYear, served, newYear, YearOf};
+ghost use Rattle.calendar.specs.Year.{leap, served, newYear, YearOf};
 
 // A style and a year of it.
 pub struct NamedYear {
@@ -33,23 +33,16 @@ pub(crate) fn is_leap(named: NamedYear) -> bool
     }
 }
 
-// The first served year of a style.
-fn first_year(style: Style) -> u64
-    ensures { λ r. ⌜ r ≡ firstYear style ⌝ }
-{
-    match style {
-        Style::Julian => 1,
-        Style::Gregorian => 1582,
-    }
-}
-
 // Whether the year is served.
 pub(crate) fn is_served(named: NamedYear) -> bool
     ensures { λ r. ⌜ r ≡ served (named .style) (named .year) ⌝ }
 {
     let style = named.style;
     let year = named.year;
-    is_between(first_year(style), year, 9999)
+    match style {
+        Style::Julian => is_between(1, year, 9999),
+        Style::Gregorian => is_between(1582, year, 9999),
+    }
 }
 
 // The day number of 1 January, in closed form.
