@@ -1,3 +1,3 @@
-mod Months
+pub mod Months
 pub mod Dates
 pub mod Laws

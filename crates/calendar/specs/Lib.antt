@@ -1,6 +1,7 @@
 -- What a reader must believe: definitions only, each under what it says; words in quotes are the scope's.
 pub mod Range
 pub mod Refusal
+pub mod Search
 pub mod Style
 pub mod Year
 pub mod Span

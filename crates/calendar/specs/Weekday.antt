@@ -1,10 +1,15 @@
 -- Weekdays.
-use Prim.Native.Nat.{ℕ, _+_, _%_}
+use mathlib.Core.Bool.{Bool}
+use Prim.Native.Nat.{ℕ, suc, pred, _+_, _%_}
+use lib.Dec.{eqb}
 use Rattle.calendar.specs.Refusal.{refusalNumber, unless}
+use Rattle.calendar.specs.Search.{firstOf}
 use Rattle.calendar.specs.Span.{inSpan}
 use Rattle.calendar.specs.Style.{styleOf, inStyle}
 use Rattle.calendar.specs.declared.refusal.Refusal.the-variants.{Span}
 use Rattle.calendar.specs.declared.style.Style.{Style}
+use Rattle.calendar.specs.declared.weekday.Side.the-variants.{After, Before}
+use Rattle.calendar.specs.declared.weekday.Side.{Side}
 use Rattle.calendar.specs.declared.weekday.WeekdayAnswer.the-variants.{Weekday, NoWeekday}
 use Rattle.calendar.specs.declared.weekday.WeekdayAnswer.{WeekdayAnswer}
 
@@ -29,3 +34,16 @@ weekdayRefusal (NoWeekday x) = refusalNumber x
 abbrev pub weekdayOrZero : WeekdayAnswer → ℕ
 weekdayOrZero (Weekday w) = w
 weekdayOrZero (NoWeekday x) = 0
+
+-- the next day on a side; there is none before the day 0
+abbrev pub neighbour : Side → ℕ → ℕ
+neighbour After n = suc n
+neighbour Before n = pred n
+
+-- the day n falls on the weekday w
+abbrev pub fallsOn : ℕ → ℕ → Bool
+fallsOn w n = eqb (weekday n) w
+
+-- "the first such weekday strictly later, .. strictly earlier": the first of the seven days on that side of n that falls on w
+unfoldable pub firstWeekday : Side → ℕ → ℕ → ℕ
+firstWeekday x w n = firstOf (neighbour x) (fallsOn w) 7 (neighbour x n)

@@ -3,7 +3,7 @@
 // that allows one answer only.
 pub mod date;
 pub mod distance;
-mod range;
+pub mod range;
 pub mod refusal;
 pub mod span;
 pub mod style;

@@ -3,7 +3,7 @@ ghost use mathlib.Core.Path.{_≡_};
 ghost use Rattle.calendar.specs.Range.{between};
 
 // Whether n lies from low to high.
-pub(crate) fn is_between(low: u64, n: u64, high: u64) -> bool
+pub fn is_between(low: u64, n: u64, high: u64) -> bool
     ensures { λ r. ⌜ r ≡ between low n high ⌝ }
 {
     if n < low {

@@ -1,4 +1,5 @@
 // Weekdays, from 1 for Monday to 7 for Sunday.
+use crate::range::is_between;
 use crate::refusal::Refusal;
 use crate::refusal::refusal_number;
 use crate::span::is_in_span;
@@ -6,7 +7,7 @@ use crate::style::Style;
 use crate::style::StyleAnswer;
 use crate::style::style_of;
 ghost use mathlib.Core.Path.{_≡_};
-ghost use Rattle.calendar.specs.Weekday.{weekdayInStyle, weekdayOfDay, weekdayRefusal, weekdayOrZero};
+ghost use Rattle.calendar.specs.Weekday.{weekdayInStyle, weekdayOfDay, weekdayRefusal, weekdayOrZero, firstWeekday};
 
 // A weekday, or why there is none.
 pub enum WeekdayAnswer {
@@ -51,5 +52,31 @@ pub fn weekday_or_zero(answer: WeekdayAnswer) -> u32
     match answer {
         WeekdayAnswer::Weekday(weekday) => weekday,
         WeekdayAnswer::NoWeekday(_) => 0,
+    }
+}
+
+// The side of a day on which a weekday is looked for.
+pub enum Side {
+    After,
+    Before,
+}
+
+// The first such weekday strictly after or strictly before a day; 0 where there is none.
+pub fn first_weekday(side: Side, weekday: u64, day: u32) -> u64
+    ensures { λ r. ⌜ r ≡ firstWeekday side weekday day ⌝ }
+{
+    if !is_between(1, weekday, 7) {
+        return 0;
+    }
+    let start = day as u64;
+    match side {
+        Side::After => start + 7 - (start + 8 - weekday) % 7,
+        Side::Before => {
+            let back = (start + 7 - weekday) % 7 + 1;
+            if start < back {
+                return 0;
+            }
+            start - back
+        }
     }
 }

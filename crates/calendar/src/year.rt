@@ -14,7 +14,7 @@ pub struct NamedYear {
 }
 
 // Whether the year is leap.
-pub(crate) fn is_leap(named: NamedYear) -> bool
+pub fn is_leap(named: NamedYear) -> bool
     ensures { λ r. ⌜ r ≡ leap (named .style) (named .year) ⌝ }
 {
     let style = named.style;

@@ -1,14 +1,19 @@
 -- Dates of a style and the days of its span.
-use mathlib.Core.Bool.{true, true≢false}
+use mathlib.Core.Bool.{Bool, true, false, true≢false}
 use mathlib.Core.Path.{_≡_, refl, sym, _∙_}
-use Prim.Native.Nat.{ℕ, _+_, _≤_}
+use Prim.Native.Nat.{ℕ, suc, pred, _+_, _≤_}
+use native.Mathlib.Omega.{arith}
 use Rattle.calendar.proofs.date.Dates.{date-bounds, bounds-date, Dated, DatedOn, year-of, one-date, next-dated, every-day}
+use Rattle.calendar.proofs.date.Months.{leap-day}
+use Rattle.calendar.proofs.range.Laws.{in-range}
 use Rattle.calendar.proofs.refusal.Laws.{no-day, passed}
-use Rattle.calendar.proofs.span.Laws.{span-small, served-small, year-served, after-start}
-use Rattle.calendar.specs.Date.{isDate, dayNumber, dayInYear, dayOfDate, IsDateInStyle, nextDate}
-use Rattle.calendar.specs.Span.{inSpan, within}
+use Rattle.calendar.proofs.span.Laws.{span-small, served-small, span-end, year-served, after-start}
+use Rattle.calendar.proofs.year.Laws.{new-year-rises}
+use Rattle.calendar.specs.Date.{daysOfMonths, isDate, dayNumber, dayInYear, dayOfDate, IsDateInStyle, nextDate}
+use Rattle.calendar.specs.Refusal.{unless}
+use Rattle.calendar.specs.Span.{firstDay, lastDay, inSpan, within}
 use Rattle.calendar.specs.Style.{styleOf, inStyle}
-use Rattle.calendar.specs.Year.{named, served}
+use Rattle.calendar.specs.Year.{named, leap, newYear, served}
 use Rattle.calendar.specs.declared.date.DateAnswer.the-variants.{On, NoDate}
 use Rattle.calendar.specs.declared.date.DateAnswer.{DateAnswer}
 use Rattle.calendar.specs.declared.refusal.Refusal.the-variants.{Year, Date, Span}
@@ -66,3 +71,25 @@ pub day-of-date-small : (k n y m d : ℕ) → dayOfDate k y m d ≡ Day n → (1
 day-of-date-small k n y m d e =
     let h = known-style k n y m d e in
     span-small (h .0) n (dated (h .0) n y m d (h .2) .0)
+
+-- a date lies in the span in every year from one on in which it does
+pub date-in-span : (s : Style) (first y m d : ℕ) → 1 ≤ first → first ≤ y → y ≤ 9999 → isDate s y m d ≡ true
+    → firstDay s ≤ newYear s first + daysOfMonths false (pred m) + pred d → inSpan s (dayNumber s y m d) ≡ true
+unfolding inSpan dayNumber
+date-in-span s first y m d one from to h start =
+    let b = date-bounds s y m d h in
+    let whole = year-of s (dayNumber s y m d) y m d (record { year = omega arith; date = b; number = refl }) in
+    in-range (firstDay s) (dayNumber s y m d) (lastDay s)
+    (omega (arith, b, new-year-rises s first y from, leap-day (leap s y) _ (pred m) (omega (arith, b)) refl))
+    (omega (arith, whole .to, span-end s, new-year-rises s (suc y) 10000 (omega arith)))
+
+answered-case : (s : Style) (y m d : ℕ) (t : Bool) → served s y ≡ t → isDate s y m d ≡ true → (t ≡ true → inSpan s (dayNumber s y m d) ≡ true)
+    → dayInYear (named s y) m d ≡ unless t (NoDay Year) (Day (dayNumber s y m d))
+unfolding dayInYear within
+answered-case s y m d true e h i = rw (e, h, i refl)
+answered-case s y m d false e h i = rw e
+
+-- a date that lies in the span in each served year is refused by 4 alone
+pub answered : (s : Style) (y m d : ℕ) → isDate s y m d ≡ true → (served s y ≡ true → inSpan s (dayNumber s y m d) ≡ true)
+    → dayInYear (named s y) m d ≡ unless (served s y) (NoDay Year) (Day (dayNumber s y m d))
+answered s y m d h i = answered-case s y m d _ refl h i

@@ -22,6 +22,10 @@ pub before-counted : (b : Bool) (k : ℕ) → k < 12 → getD daysBefore k 0 + c
 unfolding before-test daysOfMonths
 before-counted b k h = eqb→eq _ _ (of-both before-test 12 tt b k h)
 
+-- the leap day stands before the months from March on
+pub leap-day : (b t : Bool) (k : ℕ) → k < 12 → ltb 1 k ≡ t → daysOfMonths b k ≡ daysOfMonths false k + cond (b && t) 1 0
+leap-day b t k h e = omega (arith, rw e at (before-counted b k h), before-counted false k h)
+
 some-test : Bool → ℕ → Bool
 some-test b k = leb 1 (monthLength b (suc k))
 

@@ -15,7 +15,7 @@ pub span-range : (s : Style) (n : ℕ) → inSpan s n ≡ true → (firstDay s �
 unfolding inSpan
 span-range s n e = range (firstDay s) n (lastDay s) e
 
-served-range : (s : Style) (y : ℕ) → served s y ≡ true → (firstYear s ≤ y) × (y ≤ 9999)
+pub served-range : (s : Style) (y : ℕ) → served s y ≡ true → (firstYear s ≤ y) × (y ≤ 9999)
 unfolding served
 served-range s y e = range (firstYear s) y 9999 e
 
@@ -35,7 +35,7 @@ span-start : (s : Style) → newYear s (firstYear s) ≤ firstDay s
 span-start Julian = omega (arith, new-year-closed Julian 0)
 span-start Gregorian = omega (arith, new-year-closed Gregorian 1581)
 
-span-end : (s : Style) → newYear s 10000 ≡ suc (lastDay s)
+pub span-end : (s : Style) → newYear s 10000 ≡ suc (lastDay s)
 span-end Julian = new-year-closed Julian 9999
 span-end Gregorian = new-year-closed Gregorian 9999
 

@@ -1,0 +1,122 @@
+-- The column: the code's test of a day, and the one day at which a year's epact stands.
+use mathlib.Core.Bool.{Bool, true, false, _&&_, _||_, not, cond, or-true}
+use mathlib.Core.Path.{_≡_, refl, sym, subst}
+use Prim.Native.Nat.{ℕ, suc, _+_, _-_, _*_, _%_, _≤_, _<_}
+use native.Mathlib.Omega.{arith}
+use lib.Dec.{T, leb, ltb, eqb, leb→le, eqb→eq}
+use Rattle.calendar.proofs.Each.{each, below, of-both, T-both}
+use Rattle.calendar.proofs.range.Laws.{range}
+use Rattle.calendar.specs.Range.{between}
+use Rattle.calendar.specs.Search.{firstOf}
+use Rattle.calendar.specs.declared.style.Style.the-variants.{Julian, Gregorian}
+use Rattle.calendar.specs.declared.style.Style.{Style}
+use Rattle.church.proofs.epact.Laws.{epact-small}
+use Rattle.church.specs.Column.{stands, luna}
+use Rattle.church.specs.Epact.{golden, epact, arabic}
+
+same : Bool → Bool → Bool
+same true b = b
+same false b = not b
+
+is-same : (a b : Bool) → T (same a b) → a ≡ b
+unfolding same
+is-same true true t = refl
+is-same true false t = absurd t
+is-same false true t = absurd t
+is-same false false t = refl
+
+-- the code's test
+abbrev pub agrees : Style → ℕ → Bool → ℕ → Bool
+agrees Julian e a d = cond (ltb d 34) (eqb (d + e) 34) (eqb (d + e) 64)
+agrees Gregorian e a d =
+    cond (ltb d 32) (eqb (d + e) 31)
+    (cond (eqb e 24) (eqb d 36)
+    (cond (eqb e 25) (cond a (eqb d 35) (eqb d 36))
+    (eqb (d + e) 61)))
+
+agrees-test : Style → Bool → ℕ → Bool
+agrees-test s a e = each (λ i. same (agrees s e a (8 + i)) (stands s e a (8 + i))) 29
+
+agrees-tested : (s : Style) (a : Bool) (e : ℕ) → e < 30 → T (agrees-test s a e)
+unfolding agrees-test same stands between
+agrees-tested Julian a e h = of-both (agrees-test Julian) 30 tt a e h
+agrees-tested Gregorian a e h = of-both (agrees-test Gregorian) 30 tt a e h
+
+pub agreed : (s : Style) (e : ℕ) (a : Bool) (d : ℕ) → e ≤ 29 → 8 ≤ d → d ≤ 36 → agrees s e a d ≡ stands s e a d
+unfolding agrees-test
+agreed s e a d h low high =
+    let day : 8 + (d - 8) ≡ d = omega arith in
+    let tested = below (λ i. same (agrees s e a (8 + i)) (stands s e a (8 + i))) 29 (agrees-tested s a e (omega arith)) (d - 8) (omega arith) in
+    rw day at (is-same (agrees s e a (8 + (d - 8))) (stands s e a (8 + (d - 8))) tested)
+
+-- the epacts, below 30, that a year can have
+canHave : Style → ℕ → Bool → Bool
+canHave Julian e a = between 1 e 26 || between 28 e 29
+canHave Gregorian e a = not a || eqb e 25
+
+only-25 : (a b : Bool) → not (a && b) || a ≡ true
+only-25 true b = or-true (not b)
+only-25 false b = refl
+
+year-has : (s : Style) (y : ℕ) → T (canHave s (epact s y) (arabic s y))
+unfolding canHave epact arabic golden between
+year-has Julian y = below (λ k. canHave Julian (11 * (k + 1) % 30) false) 19 tt (y % 19) (omega arith)
+year-has Gregorian y = subst T (sym (only-25 (eqb (epact Gregorian y) 25) (ltb 11 (golden y)))) tt
+
+implies : Bool → Bool → Bool
+implies a b = not a || b
+
+follows : (a b : Bool) → T (implies a b) → T a → T b
+unfolding implies
+follows true b t h = t
+follows false b t h = absurd h
+
+abbrev pub walk : Style → ℕ → Bool → ℕ
+walk s e a = firstOf suc (stands s e a) 29 8
+
+-- the walk ends at a day of the column at which the epact stands, and it stands at no other
+walk-test : Style → Bool → ℕ → Bool
+walk-test s a e =
+    implies (canHave s e a)
+    (between 8 (walk s e a) 36 && (stands s e a (walk s e a) && each (λ i. implies (stands s e a (8 + i)) (eqb (8 + i) (walk s e a))) 29))
+
+walk-tested : (s : Style) (a : Bool) (e : ℕ) → e < 30 → T (walk-test s a e)
+unfolding walk-test implies canHave firstOf stands between
+walk-tested Julian a e h = of-both (walk-test Julian) 30 tt a e h
+walk-tested Gregorian a e h = of-both (walk-test Gregorian) 30 tt a e h
+
+is-true : (b : Bool) → T b → b ≡ true
+is-true true t = refl
+is-true false t = absurd t
+
+pub record Walked (s : Style) (e : ℕ) (a : Bool) : Type 0 where
+  pub low : 8 ≤ walk s e a
+  pub high : walk s e a ≤ 36
+  pub there : stands s e a (walk s e a) ≡ true
+  pub once : (d : ℕ) → 8 ≤ d → d ≤ 36 → stands s e a d ≡ true → d ≡ walk s e a
+
+pub walked : (s : Style) (y : ℕ) → Walked s (epact s y) (arabic s y)
+unfolding walk-test
+walked s y =
+    let e = epact s y in
+    let a = arabic s y in
+    let p = walk s e a in
+    let only : ℕ → Bool = λ i. implies (stands s e a (8 + i)) (eqb (8 + i) p) in
+    let t = follows (canHave s e a) _ (walk-tested s a e (omega (arith, epact-small s y))) (year-has s y) in
+    let t₁ = T-both (between 8 p 36) _ t in
+    let t₂ = T-both (stands s e a p) (each only 29) (t₁ .1) in
+    let r = range 8 p 36 (is-true _ (t₁ .0)) in
+    record {
+      low = r .0;
+      high = r .1;
+      there = is-true _ (t₂ .0);
+      once =
+          λ d low high h.
+          let day : 8 + (d - 8) ≡ d = omega arith in
+          let g = below only 29 (t₂ .1) (d - 8) (omega arith) in
+          eqb→eq d p (follows (stands s e a d) (eqb d p) (rw day at g) (rw h tt));
+    }
+
+pub luna-range : (s : Style) (y : ℕ) → (8 ≤ luna s y) × (luna s y ≤ 36)
+unfolding luna
+luna-range s y = (walked s y .low, walked s y .high)

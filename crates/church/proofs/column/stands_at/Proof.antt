@@ -1,0 +1,49 @@
+use mathlib.Core.Path.{_≡_}
+use borrow.Author.Needs.{needs}
+use borrow.Author.Tests.{lt-ltb, le-ltb, eq-eqb, ne-eqb}
+use Rattle.church.proofs.column.Laws.{agrees, agreed}
+use Rattle.church.specs.Column.{stands}
+use Rattle.church.proofs.column.stands_at.Statement.{statement}
+use Rattle.church.proofs.column.stands_at.Tie as tie
+
+column : (c : tie.Start) → agrees (c .args .style) (c .args .epact) (c .args .arabic) (c .args .day) ≡ stands (c .args .style) (c .args .epact) (c .args .arabic) (c .args .day)
+column c = agreed _ _ _ _ (c .pre .0) (c .pre .1) (c .pre .2)
+
+returns : tie.Need-returns
+returns c = rw (← column (c .before .before .before), c .before .enum-told .given .1, lt-ltb _ _ (c .if1 .taken))
+
+returns-2 : tie.Need-returns-2
+returns-2 c = rw (← column (c .before .before .before), c .before .enum-told2 .given .1, lt-ltb _ _ (c .if2 .taken))
+
+returns-3 : tie.Need-returns-3
+returns-3 c = rw (← column (c .before .before .before .before), c .before .before .enum-told2 .given .1, le-ltb _ _ (c .before .if2 .left), eq-eqb _ _ (c .if3 .taken))
+
+returns-4 : tie.Need-returns-4
+returns-4 c = rw (← column (c .before .before .before .before .before .before), c .before .before .before .before .enum-told2 .given .1, le-ltb _ _ (c .before .before .before .if2 .left), ne-eqb _ _ (c .before .before .if3 .left), eq-eqb _ _ (c .before .if4 .taken), c .if5 .taken)
+
+returns-5 : tie.Need-returns-5
+returns-5 c = rw (← column (c .before .before .before .before .before .before), c .before .before .before .before .enum-told2 .given .1, le-ltb _ _ (c .before .before .before .if2 .left), ne-eqb _ _ (c .before .before .if3 .left), eq-eqb _ _ (c .before .if4 .taken), c .if5 .left)
+
+returns-6 : tie.Need-returns-6
+returns-6 c = rw (← column (c .before .before .before), c .before .enum-told .given .1, le-ltb _ _ (c .if1 .left))
+
+returns-7 : tie.Need-returns-7
+returns-7 c = rw (← column (c .before .before .before .before .before), c .before .before .before .enum-told2 .given .1, le-ltb _ _ (c .before .before .if2 .left), ne-eqb _ _ (c .before .if3 .left), ne-eqb _ _ (c .if4 .left))
+
+pub stands-at-spec : {M : Type 1} → statement M
+stands-at-spec =
+    tie.close
+    (tie.spec
+    (λ c. search needs)
+    (λ c. search needs)
+    returns
+    (λ c. search needs)
+    (λ c. search needs)
+    (λ c. search needs)
+    returns-2
+    returns-3
+    returns-4
+    returns-5
+    (λ c. search needs)
+    returns-6
+    returns-7)

@@ -1,0 +1,28 @@
+use mathlib.Core.Bool.{true}
+use mathlib.Core.Path.{_≡_, sym, _∙_}
+use borrow.Author.Needs.{needs}
+use Rattle.calendar.proofs.refusal.Laws.{passed-day, refused}
+use Rattle.church.proofs.easter.Laws.{equinox-small}
+use Rattle.church.specs.Easter.{march, hasEaster}
+use Rattle.church.proofs.easter.easter_of_year.Statement.{statement}
+use Rattle.church.proofs.easter.easter_of_year.Tie as tie
+
+returns : tie.Need-returns
+returns c = let named = c .before .before .before .args .named in
+    let e = c .before .before .equinox .ensures in
+    e ∙ refused (hasEaster (named .style) (named .year)) _ _ _ _ (sym e ∙ c .enum-told .given .1)
+
+is-day : (c : tie.After-answer) → (hasEaster (c .before .before .before .args .named .style) (c .before .before .before .args .named .year) ≡ true) × (march (c .before .before .before .args .named .style) (c .before .before .before .args .named .year) 21 ≡ c .answer .given .0 .0)
+is-day c = passed-day _ _ _ _ (sym (c .before .before .equinox .ensures) ∙ c .answer .given .1)
+
+easter-from-requires : tie.Need-easter-from-requires
+easter-from-requires c κs = let d = is-day (c .before) in
+    (sym (d .1), rw (← d .1) (equinox-small _ _ (d .0) .1))
+
+returns-2 : tie.Need-returns-2
+returns-2 c = rw (is-day (c .before .before) .0, c .easter-from .ensures)
+
+pub easter-of-year-spec : {M : Type 1} → statement M
+easter-of-year-spec =
+    tie.close
+    (tie.spec (λ c κs. search needs) (λ c. search needs) (λ c. search needs) returns easter-from-requires returns-2)

@@ -1,0 +1,57 @@
+-- Golden numbers and epacts.
+use mathlib.Core.Bool.{Bool, true, false, _&&_, _||_, not, cond}
+use mathlib.Core.Path.{_≡_, refl, _∙_}
+use Prim.Native.Nat.{ℕ, zero, suc, _+_, _-_, _*_, _/_, _%_, _≤_, _<_}
+use native.Mathlib.Omega.{arith}
+use lib.Dec.{ltb}
+use lib.IntN.{ℤ, pos, negsuc, subℕ, _+ℤ_, _-ℤ_}
+use borrow.Author.Tests.{ltb-true, ltb-false, eq-eqb, ne-eqb}
+use Rattle.calendar.specs.declared.style.Style.the-variants.{Julian, Gregorian}
+use Rattle.calendar.specs.declared.style.Style.{Style}
+use Rattle.church.specs.Epact.{golden, hundreds, by30, gregorianSum, epact, arabic}
+
+pub golden-range : (y : ℕ) → (1 ≤ golden y) × (golden y ≤ 19)
+unfolding golden
+golden-range y = omega arith
+
+-- 29 times a number is less that number, to the remainder by 30
+less-case : (x y : ℕ) (t : Bool) → ltb x y ≡ t → by30 (cond t (negsuc (y - suc x)) (pos (x - y))) ≡ (x + 29 * y) % 30
+less-case x y true e = omega (arith, ltb-true)
+less-case x y false e = omega (arith, ltb-false)
+
+less : (x y : ℕ) → by30 (subℕ x y) ≡ (x + 29 * y) % 30
+less x y = less-case x y _ refl
+
+sum-case : (a b c : ℕ) (t : Bool) → ltb a c ≡ t → by30 (cond t (negsuc (c - suc a)) (pos (a - c)) +ℤ pos b) ≡ (a + 29 * c + b) % 30
+sum-case a b c true e =
+    let whole : a + 29 * c + b ≡ b + 29 * suc (c - suc a) + 30 * a = omega (arith, ltb-true) in
+    rw whole (less b (suc (c - suc a)) ∙ omega arith)
+sum-case a b c false e = omega (arith, ltb-false)
+
+sum : (a b c : ℕ) → by30 (pos a -ℤ pos c +ℤ pos b) ≡ (a + 29 * c + b) % 30
+sum a b zero = omega arith
+sum a b (suc c) = sum-case a b (suc c) _ refl
+
+pub epact-closed : (y : ℕ) → epact Gregorian y ≡ (11 * (golden y - 1) + 8 + y / 100 / 4 + 29 * (y / 100) + (8 * (y / 100) + 13) / 25) % 30
+unfolding epact
+epact-closed y = sum (11 * (golden y - 1) + 8 + y / 100 / 4) ((8 * (y / 100) + 13) / 25) (y / 100)
+
+by30-small : (z : ℤ) → by30 z ≤ 29
+by30-small (pos n) = omega arith
+by30-small (negsuc n) = omega arith
+
+pub epact-small : (s : Style) (y : ℕ) → epact s y ≤ 29
+unfolding epact
+epact-small Julian y = omega arith
+epact-small Gregorian y = by30-small (gregorianSum (golden y) (hundreds y))
+
+-- the Arabic 25, as the code tells it
+pub not-25 : (s : Style) (y : ℕ) → (epact s y ≡ 25 → ⊥) → arabic s y ≡ false
+unfolding arabic
+not-25 Julian y h = refl
+not-25 Gregorian y h = rw (ne-eqb (epact Gregorian y) 25 h)
+
+pub is-25 : (s : Style) (y : ℕ) → s ≡ Gregorian → epact s y ≡ 25 → arabic s y ≡ ltb 11 (golden y)
+unfolding arabic
+is-25 Julian y g h = let z : _≡_ {A = ℕ} 0 1 = cc in absurd (omega arith)
+is-25 Gregorian y g h = rw (eq-eqb (epact Gregorian y) 25 h)

@@ -1,0 +1,119 @@
+-- The code's tables of feasts, and advent.
+use mathlib.Core.Bool.{Bool, true, false, _&&_}
+use mathlib.Core.List.{List, [], _∷_}
+use mathlib.Core.Path.{_≡_, refl}
+use Prim.Native.Nat.{ℕ, suc, pred, _+_, _-_, _≤_, _<_}
+use native.Mathlib.Omega.{arith}
+use lib.Dec.{T, leb, eqb, leb→le, eqb→eq}
+use lib.ListN.{getD}
+use Rattle.calendar.proofs.Each.{below, T-both}
+use Rattle.calendar.proofs.date.Laws.{date-in-span, answered}
+use Rattle.calendar.proofs.span.Laws.{served-range}
+use Rattle.calendar.proofs.year.Laws.{new-year-closed}
+use Rattle.calendar.specs.Date.{daysOfMonths, isDate, dayNumber, dayInYear}
+use Rattle.calendar.specs.Range.{between}
+use Rattle.calendar.specs.Refusal.{unless}
+use Rattle.calendar.specs.Span.{firstDay, inSpan, within}
+use Rattle.calendar.specs.Weekday.{firstWeekday}
+use Rattle.calendar.specs.Year.{named, leap, newYear, firstYear, served}
+use Rattle.calendar.specs.declared.refusal.Refusal.the-variants.{Year}
+use Rattle.calendar.specs.declared.span.DayAnswer.the-variants.{Day, NoDay}
+use Rattle.calendar.specs.declared.style.Style.the-variants.{Julian, Gregorian}
+use Rattle.calendar.specs.declared.style.Style.{Style}
+use Rattle.calendar.specs.declared.weekday.Side.the-variants.{After}
+use Rattle.calendar.specs.declared.year.NamedYear.{NamedYear}
+use Rattle.church.specs.Easter.{sunday, easter, hasEaster}
+use Rattle.church.specs.Feast.{Rule, before, after, on, advent, rule, adventSunday, ruleDay}
+
+-- the days from Easter with 63 added, the days and the months, as the code's tables have them
+abbrev pub fromEaster : List ℕ
+fromEaster =
+    0 ∷ 7 ∷ 14 ∷ 17 ∷ 21 ∷ 28 ∷ 35 ∷ 42 ∷ 49 ∷ 56 ∷ 60 ∷ 61 ∷ 63 ∷ 70 ∷ 77 ∷ 84 ∷ 91 ∷ 98 ∷ 102 ∷ 105 ∷ 112 ∷ 119 ∷ 123 ∷ []
+
+abbrev pub fixedDays : List ℕ
+fixedDays = 1 ∷ 6 ∷ 2 ∷ 24 ∷ 25 ∷ 25 ∷ 1 ∷ 24 ∷ 29 ∷ 22 ∷ 25 ∷ 10 ∷ 15 ∷ 24 ∷ 21 ∷ 29 ∷ 18 ∷ 28 ∷ 1 ∷ 11 ∷ 30 ∷ 6 ∷ 21 ∷ 25 ∷ []
+
+abbrev pub fixedMonths : List ℕ
+fixedMonths = 1 ∷ 1 ∷ 2 ∷ 2 ∷ 3 ∷ 4 ∷ 5 ∷ 6 ∷ 6 ∷ 7 ∷ 7 ∷ 8 ∷ 8 ∷ 8 ∷ 9 ∷ 9 ∷ 10 ∷ 10 ∷ 11 ∷ 11 ∷ 11 ∷ 12 ∷ 12 ∷ 12 ∷ []
+
+-- a rule is b less 63 days from Easter
+hung : Rule → ℕ → Bool
+hung (before k) b = eqb (b + k) 63
+hung (after k) b = eqb b (63 + k)
+hung (on d m) b = false
+hung advent b = false
+
+hung-tested : (i : ℕ) → i < 23 → T (hung (rule (i + 1)) (getD fromEaster i 0))
+unfolding hung
+hung-tested i h = below (λ i. hung (rule (i + 1)) (getD fromEaster i 0)) 23 tt i h
+
+hung-rule : (t : NamedYear) (r : Rule) (b : ℕ) → T (hung r b)
+    → ruleDay t r ≡ unless (hasEaster (t .style) (t .year)) (NoDay Year) (within (t .style) (easter (t .style) (t .year) + b - 63))
+unfolding hung
+hung-rule t (before k) b h =
+    let same : easter (t .style) (t .year) - k ≡ easter (t .style) (t .year) + b - 63 = omega (arith, eqb→eq (b + k) 63 h) in
+    rw same
+hung-rule t (after k) b h =
+    let same : easter (t .style) (t .year) + k ≡ easter (t .style) (t .year) + b - 63 = omega (arith, eqb→eq b (63 + k) h) in
+    rw same
+hung-rule t (on d m) b h = absurd h
+hung-rule t advent b h = absurd h
+
+pub hung-day : (t : NamedYear) (i : ℕ) → i < 23
+    → ruleDay t (rule (i + 1)) ≡ unless (hasEaster (t .style) (t .year)) (NoDay Year) (within (t .style) (easter (t .style) (t .year) + getD fromEaster i 0 - 63))
+hung-day t i h = hung-rule t (rule (i + 1)) (getD fromEaster i 0) (hung-tested i h)
+
+small-test : ℕ → Bool
+small-test i = leb (getD fromEaster i 0) 123
+
+pub from-easter-small : (i : ℕ) → i < 23 → getD fromEaster i 0 ≤ 123
+unfolding small-test
+from-easter-small i h = leb→le _ _ (below small-test 23 tt i h)
+
+-- a rule is a date
+dated : Rule → ℕ → ℕ → Bool
+dated (before k) d m = false
+dated (after k) d m = false
+dated (on d′ m′) d m = eqb d′ d && eqb m′ m
+dated advent d m = false
+
+dated-tested : (i : ℕ) → i < 24 → T (dated (rule (i + 24)) (getD fixedDays i 0) (getD fixedMonths i 0))
+unfolding dated
+dated-tested i h = below (λ i. dated (rule (i + 24)) (getD fixedDays i 0) (getD fixedMonths i 0)) 24 tt i h
+
+dated-rule : (t : NamedYear) (r : Rule) (d m : ℕ) → T (dated r d m) → ruleDay t r ≡ dayInYear t m d
+unfolding dated
+dated-rule t (before k) d m h = absurd h
+dated-rule t (after k) d m h = absurd h
+dated-rule t (on d′ m′) d m h =
+    let b = T-both (eqb d′ d) (eqb m′ m) h in
+    rw (eqb→eq d′ d (b .0), eqb→eq m′ m (b .1))
+dated-rule t advent d m h = absurd h
+
+pub fixed-day : (t : NamedYear) (i : ℕ) → i < 24 → ruleDay t (rule (i + 24)) ≡ dayInYear t (getD fixedMonths i 0) (getD fixedDays i 0)
+fixed-day t i h = dated-rule t (rule (i + 24)) (getD fixedDays i 0) (getD fixedMonths i 0) (dated-tested i h)
+
+-- 26 November lies in the span in every served year
+first-eve : (s : Style) → (1 ≤ firstYear s) × (firstDay s ≤ newYear s (firstYear s) + daysOfMonths false 10 + 25)
+unfolding daysOfMonths
+first-eve Julian = omega (arith, new-year-closed Julian 0)
+first-eve Gregorian = omega (arith, new-year-closed Gregorian 1581)
+
+eve-in-span : (s : Style) (y : ℕ) → served s y ≡ true → inSpan s (dayNumber s y 11 26) ≡ true
+unfolding isDate between
+eve-in-span s y r =
+    let e = served-range s y r in
+    let f = first-eve s in
+    date-in-span s (firstYear s) y 11 26 (f .0) (e .0) (e .1) refl (f .1)
+
+pub eve-answer : (s : Style) (y : ℕ) → dayInYear (named s y) 11 26 ≡ unless (served s y) (NoDay Year) (Day (dayNumber s y 11 26))
+unfolding isDate between
+eve-answer s y = answered s y 11 26 refl (eve-in-span s y)
+
+-- the Sunday of the week from 27 November is the first after the 26th
+pub advent-after : (s : Style) (y : ℕ) → adventSunday s y ≡ firstWeekday After sunday (dayNumber s y 11 26)
+unfolding adventSunday firstWeekday dayNumber
+advent-after s y =
+    let n = newYear s y + daysOfMonths (leap s y) 10 in
+    let next : n + pred 27 ≡ suc (n + pred 26) = omega arith in
+    rw next

@@ -1,0 +1,53 @@
+use mathlib.Core.Bool.{true}
+use mathlib.Core.Path.{_≡_}
+use Prim.Native.Nat.{_≤_}
+use native.Mathlib.Omega.{arith}
+use borrow.Author.Needs.{needs}
+use Rattle.calendar.proofs.Tested.{failed, held}
+use Rattle.calendar.proofs.range.Laws.{range}
+use Rattle.calendar.specs.Range.{between}
+use Rattle.church.specs.Feast.{feastInYear}
+use Rattle.church.proofs.feast.feast_in_year.Statement.{statement}
+use Rattle.church.proofs.feast.feast_in_year.Tie as tie
+
+returns : tie.Need-returns
+unfolding feastInYear
+returns c = rw (failed (c .before .is-between .ensures) (c .if1 .taken))
+
+in-list : (c : tie.Else1) → between 1 (c .before .before .args .feast) 48 ≡ true
+in-list c = held (c .before .is-between .ensures) (c .if1 .left)
+
+listed : (c : tie.Else1) → (1 ≤ c .before .before .args .feast) × (c .before .before .args .feast ≤ 48)
+listed c = range 1 _ 48 (in-list c)
+
+hung-on-easter-requires : tie.Need-hung-on-easter-requires
+hung-on-easter-requires c κs = omega (arith, listed (c .before))
+
+returns-2 : tie.Need-returns-2
+unfolding feastInYear
+returns-2 c = rw (in-list (c .before .before)) (c .hung-on-easter .ensures)
+
+fixed-requires : tie.Need-fixed-requires
+fixed-requires c κs = omega (arith, listed (c .before .before))
+
+returns-3 : tie.Need-returns-3
+unfolding feastInYear
+returns-3 c = rw (in-list (c .before .before .before)) (c .fixed .ensures)
+
+returns-4 : tie.Need-returns-4
+unfolding feastInYear
+returns-4 c = let last : c .before .before .before .before .before .args .feast ≡ 48 = omega (arith, listed (c .before .before .before)) in
+    rw (in-list (c .before .before .before), last) (c .advent-of-year .ensures)
+
+pub feast-in-year-spec : {M : Type 1} → statement M
+feast-in-year-spec =
+    tie.close
+    (tie.spec
+    (λ c κs. search needs)
+    returns
+    hung-on-easter-requires
+    returns-2
+    fixed-requires
+    returns-3
+    (λ c κs. search needs)
+    returns-4)

@@ -1,0 +1,60 @@
+use mathlib.Core.Bool.{true}
+use mathlib.Core.Path.{_≡_, sym, _∙_}
+use Prim.Native.Nat.{_≤_, _+_, _-_}
+use native.Mathlib.Omega.{arith}
+use lib.ListN.{getD}
+use borrow.Author.Needs.{needs}
+use Rattle.calendar.proofs.refusal.Laws.{passed-day, refused}
+use Rattle.church.proofs.easter.Laws.{easter-small}
+use Rattle.church.proofs.feast.Laws.{from-easter-small, fromEaster, hung-day}
+use Rattle.calendar.specs.Refusal.{unless}
+use Rattle.calendar.specs.Span.{within}
+use Rattle.church.specs.Easter.{easter, hasEaster}
+use Rattle.church.specs.Feast.{rule, ruleDay}
+use Rattle.calendar.specs.declared.refusal.Refusal.the-variants.{Year}
+use Rattle.calendar.specs.declared.span.DayAnswer.the-variants.{NoDay}
+use Rattle.church.proofs.feast.hung_on_easter.Statement.{statement}
+use Rattle.church.proofs.feast.hung_on_easter.Tie as tie
+
+hung : (c : tie.Start) → ruleDay (c .args .named) (rule (c .args .feast)) ≡ unless (hasEaster (c .args .named .style) (c .args .named .year)) (NoDay Year) (within (c .args .named .style) (easter (c .args .named .style) (c .args .named .year) + getD fromEaster (c .args .feast - 1) 0 - 63))
+hung c =
+    let i = c .args .feast - 1 in
+    let f : i + 1 ≡ c .args .feast = omega (arith, c .pre) in
+    rw f at (hung-day (c .args .named) i (omega (arith, c .pre)))
+
+returns : tie.Need-returns
+returns c = let named = c .before .before .before .args .named in
+    let e = c .before .before .easter-of-year .ensures in
+    rw (hung (c .before .before .before)) (e ∙ refused (hasEaster (named .style) (named .year)) _ _ _ _ (sym e ∙ c .enum-told .given .1))
+
+is-day : (c : tie.After-answer) → (hasEaster (c .before .before .before .args .named .style) (c .before .before .before .args .named .year) ≡ true) × (easter (c .before .before .before .args .named .style) (c .before .before .before .args .named .year) ≡ c .answer .given .0 .0)
+is-day c = passed-day _ _ _ _ (sym (c .before .before .easter-of-year .ensures) ∙ c .answer .given .1)
+
+sizes : (c : tie.After-answer) → (1721424 ≤ c .answer .given .0 .0) × (c .answer .given .0 .0 ≤ 5373592)
+sizes c = rw (← is-day c .1) (easter-small _ _ (is-day c .0))
+
+add-day-within : tie.Need-add-day-within
+add-day-within c = omega (arith, sizes (c .before), from-easter-small (c .before .before .before .before .args .feast - 1) (omega (arith, c .before .before .before .before .pre)))
+
+sub-day-within : tie.Need-sub-day-within
+sub-day-within c = omega (arith, sizes (c .before))
+
+returns-2 : tie.Need-returns-2
+returns-2 c = rw (hung (c .before .before .before .before .before), is-day (c .before .before) .0, is-day (c .before .before) .1) (c .day-within .ensures)
+
+pub hung-on-easter-spec : {M : Type 1} → statement M
+hung-on-easter-spec =
+    tie.close
+    (tie.spec
+    (λ c κs. search needs)
+    (λ c. search needs)
+    (λ c. search needs)
+    returns
+    (λ c. search needs)
+    (λ c. search needs)
+    (λ c. search needs)
+    (λ c. search needs)
+    add-day-within
+    sub-day-within
+    (λ c κs. search needs)
+    returns-2)

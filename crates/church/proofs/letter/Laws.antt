@@ -1,0 +1,99 @@
+-- Sunday letters: the letter of a year's Sundays in closed form, and that it is the only one.
+use mathlib.Core.Bool.{Bool, true, false, _&&_, _||_, cond, and-true, and-false, and-eq-true-iff}
+use mathlib.Core.Logic.{_↔_}
+use mathlib.Core.Path.{_≡_, refl, sym, _∙_}
+use Prim.Native.Nat.{ℕ, suc, pred, _+_, _-_, _%_, _≤_, _<_}
+use native.Mathlib.Omega.{arith}
+use lib.Dec.{leb, ltb, eqb}
+use borrow.Author.Tests.{leb-true, eqb-true, le-leb, lt-ltb, le-ltb}
+use Rattle.calendar.proofs.date.Dates.{date-bounds}
+use Rattle.calendar.proofs.date.Months.{leap-day}
+use Rattle.calendar.specs.Date.{monthLength, daysOfMonths, isDate, dayNumber}
+use Rattle.calendar.specs.Range.{between}
+use Rattle.calendar.specs.Weekday.{weekday}
+use Rattle.calendar.specs.Year.{leap, newYear}
+use Rattle.calendar.specs.declared.style.Style.{Style}
+use Rattle.church.specs.Easter.{sunday, march}
+use Rattle.church.specs.Letter.{letterAfter, letterOf, Part, first, second, inPart, SundayLetter}
+
+-- the leap day lies before the second part, and makes the first letter one later
+before : Part → Bool → ℕ
+before first b = 0
+before second b = cond b 1 0
+
+abbrev pub ahead : Part → Bool → ℕ
+ahead first b = cond b 1 0
+ahead second b = 0
+
+small : (p : Part) (b : Bool) → (ahead p b ≤ 1) × (before p b + ahead p b ≡ cond b 1 0)
+unfolding before
+small first true = omega arith
+small first false = omega arith
+small second true = omega arith
+small second false = omega arith
+
+early-month : (m : ℕ) (a b c : Bool) → eqb m 1 ≡ a → eqb m 2 ≡ b → a || b && c ≡ true → m ≤ 2
+early-month m true b c e f h = omega (arith, eqb-true)
+early-month m false b c e f h = omega (arith, eqb-true m 2 (f ∙ and-eq-true-iff b c .0 h .0))
+
+-- days are counted as in a common year, but for a leap day before them
+counted : (p : Part) (b : Bool) (m d : ℕ) → 1 ≤ m → m ≤ 12 → inPart p m d ≡ true → daysOfMonths b (pred m) ≡ daysOfMonths false (pred m) + before p b
+unfolding before
+counted first b m d low high h =
+    let early = early-month m _ _ _ refl refl h in
+    rw and-false at (leap-day b false (pred m) (omega arith) (le-ltb 1 (pred m) (omega arith)))
+counted second b m d low high h =
+    let late = leb-true 3 m h in
+    rw and-true at (leap-day b true (pred m) (omega arith) (lt-ltb 1 (pred m) (omega arith)))
+
+-- 21 March is the day 79 of a common year, the first being 0
+march-21 : (b : Bool) → daysOfMonths b 2 ≡ 59 + cond b 1 0
+unfolding daysOfMonths
+march-21 true = refl
+march-21 false = refl
+
+-- what a day's place i in a common year is to the day n, with e for 21 March
+placed : (s : Style) (y : ℕ) (p : Part) (m d : ℕ) → isDate s y m d ≡ true → inPart p m d ≡ true
+    → dayNumber s y m d + 79 + ahead p (leap s y) ≡ march s y 21 + (daysOfMonths false (pred m) + pred d)
+unfolding dayNumber march
+placed s y p m d h g =
+    let b = date-bounds s y m d h in
+    omega (arith, small p (leap s y), march-21 (leap s y), counted p (leap s y) m d (b .month-low) (b .month-high) g)
+
+-- the letter of the Sundays, with e for 21 March
+abbrev pub closed : Part → Bool → ℕ → ℕ
+closed p b e = letterAfter (8 + ahead p b - e % 7)
+
+-- the Sundays of each part of a year bear its letter, and no other day does
+pub borne : (s : Style) (y : ℕ) (p : Part) (m d : ℕ) → isDate s y m d ≡ true → inPart p m d ≡ true
+    → (weekday (dayNumber s y m d) ≡ sunday) ↔ (letterOf m d ≡ closed p (leap s y) (march s y 21))
+borne s y p m d h g =
+    let e = placed s y p m d h g in
+    let x = small p (leap s y) in
+    (λ w. omega arith, λ l. omega arith)
+
+pub sundays : (s : Style) (y : ℕ) (p : Part) → SundayLetter s y p (closed p (leap s y) (march s y 21))
+sundays s y p m d h g w = borne s y p m d h g .0 w
+
+-- a month of each part with 31 days
+month : Part → ℕ
+month first = 1
+month second = 3
+
+in-month : (s : Style) (y : ℕ) (p : Part) (d : ℕ) → 1 ≤ d → d ≤ 7 → (isDate s y (month p) d ≡ true) × (inPart p (month p) d ≡ true)
+unfolding month isDate between
+in-month s y first d low high = (rw (le-leb 1 d low, le-leb d 31 (omega arith)), refl)
+in-month s y second d low high = (rw (le-leb 1 d low, le-leb d 31 (omega arith)), refl)
+
+one-letter-at : (s : Style) (y : ℕ) (p : Part) (l d : ℕ) → 1 ≤ d → d ≤ 7 → weekday (dayNumber s y (month p) d) ≡ sunday → SundayLetter s y p l
+    → l ≡ closed p (leap s y) (march s y 21)
+one-letter-at s y p l d low high w h =
+    let i = in-month s y p d low high in
+    sym (h (month p) d (i .0) (i .1) w) ∙ sundays s y p (month p) d (i .0) (i .1) w
+
+-- each part of a year has a Sunday, so its letter is the only one
+pub one-letter : (s : Style) (y : ℕ) (p : Part) (l : ℕ) → SundayLetter s y p l → l ≡ closed p (leap s y) (march s y 21)
+unfolding dayNumber
+one-letter s y p l h =
+    let n = newYear s y + daysOfMonths (leap s y) (pred (month p)) in
+    one-letter-at s y p l (7 - n % 7) (omega arith) (omega arith) (omega arith) h

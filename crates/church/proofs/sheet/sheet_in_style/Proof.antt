@@ -1,0 +1,67 @@
+use mathlib.Core.Bool.{true}
+use mathlib.Core.Path.{_≡_, sym, _∙_}
+use native.Mathlib.Omega.{arith}
+use borrow.Author.Needs.{needs}
+use Rattle.calendar.proofs.refusal.Laws.{passed-day, refused-by}
+use Rattle.church.proofs.easter.Laws.{equinox-small, easter-facts}
+use Rattle.church.specs.Easter.{march, key, hasEaster}
+use Rattle.church.proofs.sheet.sheet_in_style.Statement.{statement}
+use Rattle.church.proofs.sheet.sheet_in_style.Tie as tie
+
+is-day : (c : tie.After-day) → (hasEaster (c .before .before .before .args .named .style) (c .before .before .before .args .named .year) ≡ true) × (march (c .before .before .before .args .named .style) (c .before .before .before .args .named .year) 21 ≡ c .day .given .0 .0)
+is-day c = passed-day _ _ _ _ (sym (c .before .before .equinox .ensures) ∙ c .day .given .1)
+
+returns : tie.Need-returns
+returns c = refused-by _ _ _ _ (sym (c .before .before .before .equinox .ensures) ∙ c .before .refusal .given .1)
+
+easter-from-requires : tie.Need-easter-from-requires
+easter-from-requires c κs = let d = is-day (c .before) in
+    (sym (d .1), rw (← d .1) (equinox-small _ _ (d .0) .1))
+
+first-letter-requires : tie.Need-first-letter-requires
+first-letter-requires c κs = sym (is-day (c .before .before .before .before .before .before) .1)
+
+second-letter-requires : tie.Need-second-letter-requires
+second-letter-requires c κs = sym (is-day (c .before .before .before .before .before .before .before) .1)
+
+sub-t15 : tie.Need-sub-t15
+sub-t15 c = let named = c .before .before .before .before .before .before .before .before .before .before .before .before .args .named in
+    rw (c .before .before .before .before .before .before .before .easter-from .ensures, ← is-day (c .before .before .before .before .before .before .before .before .before) .1) (omega (arith, easter-facts (named .style) (named .year)))
+
+returns-2 : tie.Need-returns-2
+unfolding key
+returns-2 c = let d = is-day (c .before .before .before .before .before .before .before .before .before) in
+    let easter-is = c .before .before .before .before .before .before .before .easter-from .ensures in (
+      d .0,
+      record {
+        its-leap = c .before .before .before .before .before .before .is-leap .ensures;
+        its-golden = c .before .before .before .before .before .golden-number .ensures;
+        its-epact = c .before .before .before .before .epact-number .ensures;
+        its-arabic = c .before .before .before .is-arabic .ensures;
+        its-first = c .before .before .first-letter .ensures;
+        its-second = c .before .second-letter .ensures;
+        its-limit = c .limit-of-year .ensures;
+        its-key = rw (easter-is, ← d .1);
+        its-easter = easter-is;
+      },
+    )
+
+pub sheet-in-style-spec : {M : Type 1} → statement M
+sheet-in-style-spec =
+    tie.close
+    (tie.spec
+    (λ c κs. search needs)
+    (λ c. search needs)
+    (λ c. search needs)
+    returns
+    easter-from-requires
+    (λ c κs. search needs)
+    (λ c κs. search needs)
+    (λ c κs. search needs)
+    (λ c κs. search needs)
+    first-letter-requires
+    second-letter-requires
+    (λ c κs. search needs)
+    sub-t15
+    (λ c. search needs)
+    returns-2)

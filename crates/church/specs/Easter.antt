@@ -1,0 +1,40 @@
+-- The limit, Easter and its key, for all years from 1 on; which years are answered is a test of its own.
+use mathlib.Core.Bool.{Bool, false, _&&_, not}
+use Prim.Native.Nat.{ℕ, _+_, _-_}
+use lib.Dec.{eqb}
+use Rattle.calendar.specs.Date.{dayNumber}
+use Rattle.calendar.specs.Weekday.{firstWeekday}
+use Rattle.calendar.specs.Year.{served}
+use Rattle.calendar.specs.declared.style.Style.the-variants.{Julian, Gregorian}
+use Rattle.calendar.specs.declared.style.Style.{Style}
+use Rattle.calendar.specs.declared.weekday.Side.the-variants.{After}
+use Rattle.church.specs.Column.{luna}
+
+-- "1 Monday to 7 Sunday"
+abbrev pub sunday : ℕ
+sunday = 7
+
+-- "The limit is thirteen days after Luna I.", a day of March run on past 31
+unfoldable pub limit : Style → ℕ → ℕ
+limit s y = luna s y + 13
+
+-- the day number of a day of March, run on past 31
+unfoldable pub march : Style → ℕ → ℕ → ℕ
+march s y d = dayNumber s y 3 d
+
+-- "Easter is the first Sunday strictly after the limit."
+unfoldable pub easter : Style → ℕ → ℕ
+easter s y = firstWeekday After sunday (march s y (limit s y))
+
+-- "The key is Easter's distance from 21 March"
+unfoldable pub key : Style → ℕ → ℕ
+key s y = easter s y - march s y 21
+
+-- the year in which G begins
+abbrev pub reformYear : Style → ℕ → Bool
+reformYear Julian y = false
+reformYear Gregorian y = eqb y 1582
+
+-- refusal 4: a year that is not served, and "G 1582 for the year sheet or a feast hung on Easter"
+unfoldable pub hasEaster : Style → ℕ → Bool
+hasEaster s y = served s y && not (reformYear s y)

@@ -1,0 +1,63 @@
+// The limit and Easter.
+use crate::column::luna_one;
+use calendar::date::day_in_year;
+use calendar::refusal::Refusal;
+use calendar::span::DayAnswer;
+use calendar::style::Style;
+use calendar::weekday::Side;
+use calendar::weekday::first_weekday;
+use calendar::year::NamedYear;
+ghost use mathlib.Core.Path.{_≡_};
+ghost use Prim.Native.Nat.{_≤_};
+ghost use Rattle.calendar.specs.Refusal.{unless};
+ghost use Rattle.calendar.specs.declared.refusal.Refusal.the-variants.{Year};
+ghost use Rattle.calendar.specs.declared.span.DayAnswer.the-variants.{Day, NoDay};
+ghost use Rattle.church.specs.Easter.{limit, march, easter, reformYear, hasEaster};
+
+// The limit, a day of March run on past 31.
+pub(crate) fn limit_of_year(named: NamedYear) -> u64
+    ensures { λ r. ⌜ r ≡ limit (named .style) (named .year) ⌝ }
+{
+    luna_one(named) + 13
+}
+
+// Whether it is the year in which G begins.
+fn is_reform_year(named: NamedYear) -> bool
+    ensures { λ r. ⌜ r ≡ reformYear (named .style) (named .year) ⌝ }
+{
+    let style = named.style;
+    match style {
+        Style::Julian => false,
+        Style::Gregorian => named.year == 1582,
+    }
+}
+
+// The day of 21 March, where the year's Easter is answered.
+pub(crate) fn equinox(named: NamedYear) -> DayAnswer
+    ensures { λ r. ⌜ r ≡ unless (hasEaster (named .style) (named .year)) (NoDay Year) (Day (march (named .style) (named .year) 21)) ⌝ }
+{
+    if is_reform_year(named) {
+        return DayAnswer::NoDay(Refusal::Year);
+    }
+    day_in_year(named, 3, 21)
+}
+
+// Easter, told by the day of 21 March.
+pub(crate) fn easter_from(named: NamedYear, equinox: u32) -> u32
+    requires { ⌜ (equinox ≡ march (named .style) (named .year) 21) × (equinox ≤ 5373557) ⌝ }
+    ensures { λ r. ⌜ r ≡ easter (named .style) (named .year) ⌝ }
+{
+    let limit_day = equinox + (limit_of_year(named) - 21) as u32;
+    first_weekday(Side::After, 7, limit_day) as u32
+}
+
+// Easter, where the year's is answered.
+pub(crate) fn easter_of_year(named: NamedYear) -> DayAnswer
+    ensures { λ r. ⌜ r ≡ unless (hasEaster (named .style) (named .year)) (NoDay Year) (Day (easter (named .style) (named .year))) ⌝ }
+{
+    let answer = equinox(named);
+    let DayAnswer::Day(equinox) = answer else {
+        return answer;
+    };
+    DayAnswer::Day(easter_from(named, equinox))
+}

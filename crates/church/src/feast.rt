@@ -1,0 +1,158 @@
+// Feasts by their numbers: 1 to 23 hang on Easter, 24 to 47 are fixed, 48 is advent.
+use crate::easter::easter_of_year;
+use calendar::date::day_in_year;
+use calendar::range::is_between;
+use calendar::refusal::Refusal;
+use calendar::span::DayAnswer;
+use calendar::span::day_within;
+use calendar::style::StyleAnswer;
+use calendar::style::style_of;
+use calendar::weekday::Side;
+use calendar::weekday::first_weekday;
+use calendar::year::NamedYear;
+ghost use mathlib.Core.Path.{_≡_};
+ghost use Prim.Native.Nat.{_≤_};
+ghost use Rattle.church.specs.Feast.{advent, rule, ruleDay, feastInYear, feastOfYear};
+
+// The days from Easter of the feasts 1 to 23, with 63 added to each.
+const FROM_EASTER: [u64; 23] = [
+    0,
+    7,
+    14,
+    17,
+    21,
+    28,
+    35,
+    42,
+    49,
+    56,
+    60,
+    61,
+    63,
+    70,
+    77,
+    84,
+    91,
+    98,
+    102,
+    105,
+    112,
+    119,
+    123,
+];
+
+// The days and the months of the feasts 24 to 47.
+const FIXED_DAYS: [u64; 24] = [
+    1,
+    6,
+    2,
+    24,
+    25,
+    25,
+    1,
+    24,
+    29,
+    22,
+    25,
+    10,
+    15,
+    24,
+    21,
+    29,
+    18,
+    28,
+    1,
+    11,
+    30,
+    6,
+    21,
+    25,
+];
+
+const FIXED_MONTHS: [u64; 24] = [
+    1,
+    1,
+    2,
+    2,
+    3,
+    4,
+    5,
+    6,
+    6,
+    7,
+    7,
+    8,
+    8,
+    8,
+    9,
+    9,
+    10,
+    10,
+    11,
+    11,
+    11,
+    12,
+    12,
+    12,
+];
+
+// The day of a feast that hangs on Easter.
+fn hung_on_easter(named: NamedYear, feast: u64) -> DayAnswer
+    requires { ⌜ (1 ≤ feast) × (feast ≤ 23) ⌝ }
+    ensures { λ r. ⌜ r ≡ ruleDay named (rule feast) ⌝ }
+{
+    let answer = easter_of_year(named);
+    let DayAnswer::Day(easter) = answer else {
+        return answer;
+    };
+    let style = named.style;
+    let i = (feast - 1) as usize;
+    day_within(style, easter as u64 + FROM_EASTER[i] - 63)
+}
+
+// The day of a feast that has a date.
+fn fixed(named: NamedYear, feast: u64) -> DayAnswer
+    requires { ⌜ (24 ≤ feast) × (feast ≤ 47) ⌝ }
+    ensures { λ r. ⌜ r ≡ ruleDay named (rule feast) ⌝ }
+{
+    let i = (feast - 24) as usize;
+    day_in_year(named, FIXED_MONTHS[i], FIXED_DAYS[i])
+}
+
+// The Sunday after 26 November.
+fn advent_of_year(named: NamedYear) -> DayAnswer
+    ensures { λ r. ⌜ r ≡ ruleDay named advent ⌝ }
+{
+    let answer = day_in_year(named, 11, 26);
+    let DayAnswer::Day(day) = answer else {
+        return answer;
+    };
+    let style = named.style;
+    day_within(style, first_weekday(Side::After, 7, day))
+}
+
+// The day of a feast of a named year.
+pub fn feast_in_year(named: NamedYear, feast: u64) -> DayAnswer
+    ensures { λ r. ⌜ r ≡ feastInYear named feast ⌝ }
+{
+    if !is_between(1, feast, 48) {
+        return DayAnswer::NoDay(Refusal::Name);
+    }
+    if feast < 24 {
+        return hung_on_easter(named, feast);
+    }
+    if feast < 48 {
+        return fixed(named, feast);
+    }
+    advent_of_year(named)
+}
+
+// Feast: refused by 1, 4 or 6.
+pub fn feast_of_year(style: u64, feast: u64, year: u64) -> DayAnswer
+    ensures { λ r. ⌜ r ≡ feastOfYear style feast year ⌝ }
+{
+    match style_of(style) {
+        StyleAnswer::Known(known) => feast_in_year(NamedYear { style: known, year }, feast),
+        StyleAnswer::NoStyle(refusal) => DayAnswer::NoDay(refusal),
+    }
+}

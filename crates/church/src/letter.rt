@@ -1,0 +1,33 @@
+// Sunday letters.
+use calendar::year::NamedYear;
+use calendar::year::is_leap;
+ghost use mathlib.Core.Path.{_≡_};
+ghost use Prim.Native.Nat.{_≤_};
+ghost use Rattle.church.specs.Easter.{march};
+ghost use Rattle.church.specs.Letter.{first, second, letterAfter, SundayLetter};
+
+// The letter that comes n days after A.
+fn letter_after(n: u32) -> u8
+    ensures { λ r. ⌜ r ≡ letterAfter n ⌝ }
+{
+    b'A' + (n % 7) as u8
+}
+
+// The letter of the Sundays up to 28 February, told by the day of 21 March.
+pub(crate) fn first_letter(named: NamedYear, equinox: u32) -> u8
+    requires { ⌜ equinox ≡ march (named .style) (named .year) 21 ⌝ }
+    ensures { λ r. ⌜ SundayLetter (named .style) (named .year) first r ⌝ }
+{
+    if is_leap(named) {
+        return letter_after(9 - equinox % 7);
+    }
+    letter_after(8 - equinox % 7)
+}
+
+// The letter of the Sundays from 1 March on, told by the day of 21 March.
+pub(crate) fn second_letter(named: NamedYear, equinox: u32) -> u8
+    requires { ⌜ equinox ≡ march (named .style) (named .year) 21 ⌝ }
+    ensures { λ r. ⌜ SundayLetter (named .style) (named .year) second r ⌝ }
+{
+    letter_after(8 - equinox % 7)
+}

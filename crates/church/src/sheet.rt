@@ -1,0 +1,72 @@
+// Year sheets.
+use crate::easter::easter_from;
+use crate::easter::equinox;
+use crate::easter::limit_of_year;
+use crate::epact::epact_number;
+use crate::epact::golden_number;
+use crate::epact::is_arabic;
+use crate::letter::first_letter;
+use crate::letter::second_letter;
+use calendar::refusal::Refusal;
+use calendar::span::DayAnswer;
+use calendar::style::StyleAnswer;
+use calendar::style::style_of;
+use calendar::year::NamedYear;
+use calendar::year::is_leap;
+ghost use Rattle.church.specs.Sheet.{IsSheetInStyle, IsSheetOfYear};
+
+// What the church's tables tell of a year.
+pub struct YearSheet {
+    pub leap: bool,
+    pub golden: u64,
+    pub epact: u64,
+    // Whether the epact is the Arabic 25.
+    pub arabic: bool,
+    // The bytes of the Sunday letters up to 28 February and from 1 March.
+    pub first_letter: u8,
+    pub second_letter: u8,
+    // A day of March run on past 31.
+    pub limit: u64,
+    // The days from 21 March to Easter.
+    pub key: u64,
+    // Easter's day number.
+    pub easter: u32,
+}
+
+// A year's sheet, or why there is none.
+pub enum SheetAnswer {
+    Sheet(YearSheet),
+    NoSheet(Refusal),
+}
+
+// The sheet of a named year.
+pub fn sheet_in_style(named: NamedYear) -> SheetAnswer
+    ensures { λ r. ⌜ IsSheetInStyle named r ⌝ }
+{
+    let equinox = match equinox(named) {
+        DayAnswer::Day(day) => day,
+        DayAnswer::NoDay(refusal) => return SheetAnswer::NoSheet(refusal),
+    };
+    let easter = easter_from(named, equinox);
+    SheetAnswer::Sheet(YearSheet {
+        leap: is_leap(named),
+        golden: golden_number(named),
+        epact: epact_number(named),
+        arabic: is_arabic(named),
+        first_letter: first_letter(named, equinox),
+        second_letter: second_letter(named, equinox),
+        limit: limit_of_year(named),
+        key: (easter - equinox) as u64,
+        easter,
+    })
+}
+
+// Year sheet: refused by 1 or 4.
+pub fn sheet_of_year(style: u64, year: u64) -> SheetAnswer
+    ensures { λ r. ⌜ IsSheetOfYear style year r ⌝ }
+{
+    match style_of(style) {
+        StyleAnswer::Known(known) => sheet_in_style(NamedYear { style: known, year }),
+        StyleAnswer::NoStyle(refusal) => SheetAnswer::NoSheet(refusal),
+    }
+}
