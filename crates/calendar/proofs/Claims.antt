@@ -8,11 +8,13 @@ use lib.IntN.{ℤ, pos, natAbs}
 use borrow.Author.Tests.{le-leb, lt-leb}
 use Rattle.calendar.proofs.date.Laws as laws
 use Rattle.calendar.proofs.distance.Laws.{both-days, distance-size, zero-same-day, same-day-zero}
+use Rattle.calendar.proofs.weekday.Laws.{is-later, is-earlier}
 use Rattle.calendar.specs.Date.{daysOfMonths, isDate, dayNumber, dayInYear, dayOfDate, IsDateInStyle, IsDateOfDay, nextDate}
 use Rattle.calendar.specs.Distance.{distanceOfDays}
 use Rattle.calendar.specs.Range.{between}
 use Rattle.calendar.specs.Span.{inSpan, within, dayOrRefusal}
 use Rattle.calendar.specs.Style.{styleNumber, styleOf, inStyle}
+use Rattle.calendar.specs.Weekday.{weekday, firstWeekday}
 use Rattle.calendar.specs.Year.{daysOfYears, newYear, served}
 use Rattle.calendar.specs.declared.date.DateAnswer.the-variants.{On, NoDate}
 use Rattle.calendar.specs.declared.date.DateAnswer.{DateAnswer}
@@ -23,6 +25,7 @@ use Rattle.calendar.specs.declared.style.Style.the-variants.{Julian, Gre
 use Rattle.calendar.specs.declared.style.Style.{Style}
 use Rattle.calendar.specs.declared.style.StyleAnswer.the-variants.{Known, NoStyle}
 use Rattle.calendar.specs.declared.style.StyleAnswer.{StyleAnswer}
+use Rattle.calendar.specs.declared.weekday.Side.the-variants.{After, Before}
 
 -- a call by the number of a style is the call in that style
 by-number : (s : Style) → styleOf (styleNumber s) ≡ Known s
@@ -93,3 +96,17 @@ distance-range k y m d k′ y′ m′ d′ z h =
 -- A distance is 0 exactly when both dates have the same day.
 pub zero-distance : (p q : DayAnswer) → (distanceOfDays p q ≡ Days (pos 0)) ↔ ((n : ℕ) × (p ≡ Day n) × (q ≡ Day n))
 zero-distance p q = (zero-same-day p q, λ h. rw (h .1, h .2) (same-day-zero (h .0)))
+
+-- The first weekday after a day is later, falls on that weekday, and no day between does.
+pub first-after : (w n : ℕ) → 1 ≤ w → w ≤ 7
+    → (n < firstWeekday After w n) × (weekday (firstWeekday After w n) ≡ w) × ((m : ℕ) → n < m → weekday m ≡ w → firstWeekday After w n ≤ m)
+first-after w n low high =
+    let f = is-later w n low high in
+    (f .0, f .2, λ m later falls. omega (arith, f))
+
+-- The first weekday before a day is earlier, falls on that weekday, and no day between does.
+pub first-before : (w n : ℕ) → 1 ≤ w → w ≤ 7 → 7 ≤ n
+    → (firstWeekday Before w n < n) × (weekday (firstWeekday Before w n) ≡ w) × ((m : ℕ) → m < n → weekday m ≡ w → m ≤ firstWeekday Before w n)
+first-before w n low high late =
+    let f = is-earlier w n low high late in
+    (f .0, f .2, λ m earlier falls. omega (arith, f))

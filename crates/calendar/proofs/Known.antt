@@ -2,6 +2,7 @@
 use mathlib.Core.List.{List, [], _∷_}
 use mathlib.Core.Path.{_≡_, refl}
 use Prim.Native.Nat.{ℕ}
+use Rattle.calendar.proofs.Table.{All, none, _also_}
 use Rattle.calendar.specs.Date.{daysOfMonths, isDate, dayNumber, dayInYear, dayOfDate}
 use Rattle.calendar.specs.Range.{between}
 use Rattle.calendar.specs.Span.{inSpan, within, dayOrRefusal}
@@ -33,11 +34,6 @@ table =
     ∷ date 29 2 1582 Gregorian 5
     ∷ []
 
-infixr 67 _also_
-pub data All : List Row → Type 0 where
-  none : All []
-  _also_ : {r : Row} {rows : List Row} → Holds r → All rows → All (r ∷ rows)
-
-pub known : All table
+pub known : All Holds table
 unfolding styleOf dayInYear served isDate within inSpan between dayNumber daysOfMonths newYear daysOfYears
 known = refl also refl also refl also refl also refl also refl also refl also refl also refl also none

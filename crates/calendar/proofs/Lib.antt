@@ -2,6 +2,7 @@
 mod Counting
 pub mod Each
 pub mod Searches
+pub mod Table
 pub mod Tested
 pub mod Claims
 pub mod Known

@@ -9,12 +9,13 @@ use lib.ListN.{getD}
 use Rattle.calendar.proofs.Each.{below, T-both}
 use Rattle.calendar.proofs.date.Laws.{date-in-span, answered}
 use Rattle.calendar.proofs.span.Laws.{served-range}
+use Rattle.calendar.proofs.weekday.Laws.{is-later}
 use Rattle.calendar.proofs.year.Laws.{new-year-closed}
 use Rattle.calendar.specs.Date.{daysOfMonths, isDate, dayNumber, dayInYear}
 use Rattle.calendar.specs.Range.{between}
 use Rattle.calendar.specs.Refusal.{unless}
 use Rattle.calendar.specs.Span.{firstDay, inSpan, within}
-use Rattle.calendar.specs.Weekday.{firstWeekday}
+use Rattle.calendar.specs.Weekday.{weekday, firstWeekday}
 use Rattle.calendar.specs.Year.{named, leap, newYear, firstYear, served}
 use Rattle.calendar.specs.declared.refusal.Refusal.the-variants.{Year}
 use Rattle.calendar.specs.declared.span.DayAnswer.the-variants.{Day, NoDay}
@@ -117,3 +118,21 @@ advent-after s y =
     let n = newYear s y + daysOfMonths (leap s y) 10 in
     let next : n + pred 27 ≡ suc (n + pred 26) = omega arith in
     rw next
+
+-- the week from 27 November to 3 December
+november : (b : Bool) → daysOfMonths b 11 ≡ daysOfMonths b 10 + 30
+unfolding daysOfMonths
+november b = refl
+
+pub week-long : (s : Style) (y : ℕ) → (dayNumber s y 11 27 ≡ dayNumber s y 11 26 + 1) × (dayNumber s y 12 3 ≡ dayNumber s y 11 26 + 7)
+unfolding dayNumber
+week-long s y = (omega arith, omega (arith, november (leap s y)))
+
+pub advent-week : (s : Style) (y : ℕ)
+    → (weekday (firstWeekday After sunday (dayNumber s y 11 26)) ≡ sunday)
+    × (dayNumber s y 11 27 ≤ firstWeekday After sunday (dayNumber s y 11 26))
+    × (firstWeekday After sunday (dayNumber s y 11 26) ≤ dayNumber s y 12 3)
+advent-week s y =
+    let f = is-later sunday (dayNumber s y 11 26) (omega arith) (omega arith) in
+    let w = week-long s y in
+    (f .2, omega arith, omega arith)
