@@ -1,6 +1,8 @@
 //! Lines `CALL NUMBERS: ANSWER`, each answered anew and compared.
 
 use crate::days::{Answer, Date, date_of_day, day_of_date, distance_of_dates, weekday_of_day};
+use crate::feasts::{COUNT, day_of_feast};
+use crate::sheets::sheet_of_year;
 use std::io::BufRead;
 use std::process::ExitCode;
 
@@ -24,14 +26,37 @@ fn two(answer: Answer<i128>) -> String {
     }
 }
 
+fn feast(style: i128, feast: i128, year: i128) -> String {
+    one(day_of_feast(style, feast, year), |n| n.to_string())
+}
+
+fn sheet(style: i128, year: i128) -> String {
+    one(sheet_of_year(style, year), |sheet| sheet.to_string())
+}
+
+/// The sheet, and all feasts in the order of their numbers.
+fn year(style: i128, year: i128) -> String {
+    let feasts: Vec<String> = (1..=COUNT).map(|number| feast(style, number, year)).collect();
+    format!("{}; {}", sheet(style, year), feasts.join(" "))
+}
+
+/// A number of a call: 1 to 20 digits, and at most 2^64 - 1.
+fn number(word: &str) -> Option<i128> {
+    let digits = (1..=20).contains(&word.len()) && word.bytes().all(|byte| byte.is_ascii_digit());
+    if digits { word.parse::<u64>().ok().map(i128::from) } else { None }
+}
+
 /// The answer to a call, or nothing where there is no such call.
-fn answered(call: &str) -> Option<String> {
+fn known(call: &str) -> Option<String> {
     let (name, rest) = call.split_once(' ')?;
-    let numbers: Vec<i128> = rest.split(' ').map(|word| word.parse().ok()).collect::<Option<_>>()?;
+    let numbers: Vec<i128> = rest.split(' ').map(number).collect::<Option<_>>()?;
     match (name, &numbers[..]) {
         ("day", &[s, y, m, d]) => Some(one(day_of_date(s, &date(y, m, d)), |n| n.to_string())),
         ("date", &[s, n]) => Some(one(date_of_day(s, n), |d| format!("{}.{} {}", d.day, d.month, d.year))),
         ("weekday", &[s, n]) => Some(two(weekday_of_day(s, n))),
+        ("feast", &[s, f, y]) => Some(feast(s, f, y)),
+        ("sheet", &[s, y]) => Some(sheet(s, y)),
+        ("year", &[s, y]) => Some(year(s, y)),
         ("distance", &[s, y, m, d, t, z, n, e]) => {
             Some(two(distance_of_dates(s, &date(y, m, d), t, &date(z, n, e))))
         }
@@ -39,25 +64,31 @@ fn answered(call: &str) -> Option<String> {
     }
 }
 
+pub fn answered(call: &str) -> String {
+    known(call).unwrap_or_else(|| "no such call".to_string())
+}
+
+/// Prints each call with its answer.
+pub fn answer(calls: impl BufRead) -> ExitCode {
+    for call in calls.lines() {
+        let call = call.expect("the calls can be read");
+        println!("{call}: {}", answered(&call));
+    }
+    ExitCode::SUCCESS
+}
+
 /// Fails at the first line that this program answers otherwise, and where there is no line.
 pub fn compare(lines: impl BufRead) -> ExitCode {
     let mut count = 0;
     for line in lines.lines() {
         let line = line.expect("the lines can be read");
-        let own = line.split_once(": ").and_then(|(call, answer)| {
-            answered(call).map(|own| (own == answer, format!("{call}: {own}")))
-        });
-        match own {
-            Some((true, _)) => count += 1,
-            Some((false, own)) => {
-                eprintln!("second: the line is '{line}', and here '{own}'");
-                return ExitCode::FAILURE;
-            }
-            None => {
-                eprintln!("second: no such call: '{line}'");
-                return ExitCode::FAILURE;
-            }
+        let call = line.split_once(": ").map_or(line.as_str(), |(call, _)| call);
+        let own = format!("{call}: {}", answered(call));
+        if line != own {
+            eprintln!("second: the line is '{line}', and here '{own}'");
+            return ExitCode::FAILURE;
         }
+        count += 1;
     }
     println!("second: {count} answers agree");
     if count == 0 { ExitCode::FAILURE } else { ExitCode::SUCCESS }

@@ -15,7 +15,7 @@ pub struct Date {
     pub day: i128,
 }
 
-fn style(number: i128) -> Answer<Style> {
+pub fn style(number: i128) -> Answer<Style> {
     match number {
         1 => Ok(Style::J),
         2 => Ok(Style::G),
@@ -24,7 +24,7 @@ fn style(number: i128) -> Answer<Style> {
 }
 
 /// The day number of a date, also of one that no calendar has.
-fn unchecked_day(style: Style, date: &Date) -> i128 {
+pub fn unchecked_day(style: Style, date: &Date) -> i128 {
     let h = date.month - 2;
     let g = date.year + 4716 - (12 - h).div_euclid(12);
     let f = (h - 1 + 12).rem_euclid(12);
@@ -59,7 +59,7 @@ fn limits(style: Style) -> (i128, i128, i128) {
     }
 }
 
-fn in_span(style: Style, day: i128) -> Answer<i128> {
+pub fn in_span(style: Style, day: i128) -> Answer<i128> {
     let (_, first, last) = limits(style);
     if (first..=last).contains(&day) { Ok(day) } else { Err(6) }
 }
@@ -85,10 +85,14 @@ pub fn date_of_day(number: i128, day: i128) -> Answer<Date> {
 }
 
 /// 1 January 2000 G, day 2451545, was a Saturday.
+pub fn weekday(day: i128) -> i128 {
+    (day - 2451545 + 5).rem_euclid(7) + 1
+}
+
 pub fn weekday_of_day(number: i128, day: i128) -> Answer<i128> {
     let style = style(number)?;
     in_span(style, day)?;
-    Ok((day - 2451545 + 5).rem_euclid(7) + 1)
+    Ok(weekday(day))
 }
 
 pub fn distance_of_dates(number1: i128, date1: &Date, number2: i128, date2: &Date) -> Answer<i128> {

@@ -3,15 +3,31 @@
 
 mod cases;
 mod days;
+mod feasts;
+mod outside;
+mod sheets;
+mod years;
 
 use std::process::ExitCode;
 
+const USAGE: &str = "\
+usage: second cases < LINES             compares lines 'CALL NUMBERS: ANSWER' with its own answers
+       second answers < CALLS           prints such lines for calls 'CALL NUMBERS'
+       second years                     prints the call 'year STYLE YEAR' for every year
+       second survey < LINES            compares the lines of all those calls
+       second outside FILE.. < LINES    compares lines of such calls with printed tables";
+
 fn main() -> ExitCode {
     let words: Vec<String> = std::env::args().skip(1).collect();
+    let lines = std::io::stdin().lock();
     match words.iter().map(String::as_str).collect::<Vec<_>>()[..] {
-        ["days-cases"] => cases::compare(std::io::stdin().lock()),
+        ["cases"] => cases::compare(lines),
+        ["answers"] => cases::answer(lines),
+        ["years"] => years::print(),
+        ["survey"] => years::compare(lines),
+        ["outside", ref files @ ..] if !files.is_empty() => outside::compare(files, lines),
         _ => {
-            eprintln!("usage: second days-cases < crates/days_cases/stdout");
+            eprintln!("{USAGE}");
             ExitCode::from(2)
         }
     }
