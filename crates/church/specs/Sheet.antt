@@ -20,8 +20,8 @@ pub record IsSheet (s : Style) (y : ℕ) (r : YearSheet) : Type 0 where
   pub its-golden : r .golden ≡ golden y
   pub its-epact : r .epact ≡ epact s y
   pub its-arabic : r .arabic ≡ arabic s y
-  pub its-first : SundayLetter s y first (r .«first_letter»)
-  pub its-second : SundayLetter s y second (r .«second_letter»)
+  pub its-first : SundayLetter s y first (r .letters .first)
+  pub its-second : SundayLetter s y second (r .letters .second)
   pub its-limit : r .limit ≡ limit s y
   pub its-key : r .key ≡ key s y
   pub its-easter : r .easter ≡ easter s y

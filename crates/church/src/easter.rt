@@ -47,7 +47,7 @@ pub(crate) fn easter_from(named: NamedYear, equinox: u32) -> u32
     requires { ⌜ (equinox ≡ march (named .style) (named .year) 21) × (equinox ≤ 5373557) ⌝ }
     ensures { λ r. ⌜ r ≡ easter (named .style) (named .year) ⌝ }
 {
-    let limit_day = equinox + (limit_of_year(named) - 21) as u32;
+    let limit_day = equinox + limit_of_year(named) as u32 - 21;
     first_weekday(Side::After, 7, limit_day) as u32
 }
 

@@ -2,7 +2,8 @@
 use calendar::style::Style;
 use calendar::year::NamedYear;
 ghost use mathlib.Core.Path.{_≡_};
-ghost use Rattle.church.specs.Epact.{golden, epact, arabic};
+ghost use Prim.Native.Nat.{_≤_};
+ghost use Rattle.church.specs.Epact.{golden, by30, gregorianSum, epact, arabic};
 
 // The golden number.
 pub(crate) fn golden_number(named: NamedYear) -> u64
@@ -11,7 +12,17 @@ pub(crate) fn golden_number(named: NamedYear) -> u64
     named.year % 19 + 1
 }
 
-// The epact; 29 times the hundreds stand for less the hundreds, so that no sum is negative.
+// The Gregorian epact; 30 times the hundreds are added, so that no sum is negative.
+fn gregorian_epact(golden_number: u64, hundreds: u64) -> u64
+    requires { ⌜ (1 ≤ «golden_number») × («golden_number» ≤ 19) × (hundreds ≤ 184467440737095516) ⌝ }
+    ensures { λ r. ⌜ r ≡ by30 (gregorianSum «golden_number» hundreds) ⌝ }
+{
+    let sun = hundreds / 4 + 30 * hundreds - hundreds;
+    let moon = (8 * hundreds + 13) / 25;
+    (11 * (golden_number - 1) + 8 + sun + moon) % 30
+}
+
+// The epact.
 pub(crate) fn epact_number(named: NamedYear) -> u64
     ensures { λ r. ⌜ r ≡ epact (named .style) (named .year) ⌝ }
 {
@@ -19,11 +30,7 @@ pub(crate) fn epact_number(named: NamedYear) -> u64
     let golden_number = golden_number(named);
     match style {
         Style::Julian => 11 * golden_number % 30,
-        Style::Gregorian => {
-            let hundreds = named.year / 100;
-            (11 * (golden_number - 1) + 8 + hundreds / 4 + 29 * hundreds + (8 * hundreds + 13) / 25)
-                % 30
-        }
+        Style::Gregorian => gregorian_epact(golden_number, named.year / 100),
     }
 }
 

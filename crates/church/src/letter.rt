@@ -2,9 +2,14 @@
 use calendar::year::NamedYear;
 use calendar::year::is_leap;
 ghost use mathlib.Core.Path.{_≡_};
-ghost use Prim.Native.Nat.{_≤_};
 ghost use Rattle.church.specs.Easter.{march};
 ghost use Rattle.church.specs.Letter.{first, second, letterAfter, SundayLetter};
+
+// The bytes of the letters up to 28 February and from 1 March.
+pub struct SundayLetters {
+    pub first: u8,
+    pub second: u8,
+}
 
 // The letter that comes n days after A.
 fn letter_after(n: u32) -> u8
@@ -13,21 +18,20 @@ fn letter_after(n: u32) -> u8
     b'A' + (n % 7) as u8
 }
 
-// The letter of the Sundays up to 28 February, told by the day of 21 March.
-pub(crate) fn first_letter(named: NamedYear, equinox: u32) -> u8
+// The letters on which the year's Sundays fall, told by the day of 21 March.
+pub(crate) fn sunday_letters(named: NamedYear, equinox: u32) -> SundayLetters
     requires { ⌜ equinox ≡ march (named .style) (named .year) 21 ⌝ }
-    ensures { λ r. ⌜ SundayLetter (named .style) (named .year) first r ⌝ }
+    ensures { λ r. ⌜ SundayLetter (named .style) (named .year) first (r .first) × SundayLetter (named .style) (named .year) second (r .second) ⌝ }
 {
+    let second = letter_after(8 - equinox % 7);
     if is_leap(named) {
-        return letter_after(9 - equinox % 7);
+        return SundayLetters {
+            first: letter_after(9 - equinox % 7),
+            second,
+        };
     }
-    letter_after(8 - equinox % 7)
-}
-
-// The letter of the Sundays from 1 March on, told by the day of 21 March.
-pub(crate) fn second_letter(named: NamedYear, equinox: u32) -> u8
-    requires { ⌜ equinox ≡ march (named .style) (named .year) 21 ⌝ }
-    ensures { λ r. ⌜ SundayLetter (named .style) (named .year) second r ⌝ }
-{
-    letter_after(8 - equinox % 7)
+    SundayLetters {
+        first: second,
+        second,
+    }
 }

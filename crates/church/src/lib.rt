@@ -5,5 +5,5 @@ mod column;
 mod easter;
 mod epact;
 pub mod feast;
-mod letter;
+pub mod letter;
 pub mod sheet;

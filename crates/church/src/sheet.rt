@@ -5,8 +5,8 @@ use crate::easter::limit_of_year;
 use crate::epact::epact_number;
 use crate::epact::golden_number;
 use crate::epact::is_arabic;
-use crate::letter::first_letter;
-use crate::letter::second_letter;
+use crate::letter::SundayLetters;
+use crate::letter::sunday_letters;
 use calendar::refusal::Refusal;
 use calendar::span::DayAnswer;
 use calendar::style::StyleAnswer;
@@ -22,9 +22,7 @@ pub struct YearSheet {
     pub epact: u64,
     // Whether the epact is the Arabic 25.
     pub arabic: bool,
-    // The bytes of the Sunday letters up to 28 February and from 1 March.
-    pub first_letter: u8,
-    pub second_letter: u8,
+    pub letters: SundayLetters,
     // A day of March run on past 31.
     pub limit: u64,
     // The days from 21 March to Easter.
@@ -53,8 +51,7 @@ pub fn sheet_in_style(named: NamedYear) -> SheetAnswer
         golden: golden_number(named),
         epact: epact_number(named),
         arabic: is_arabic(named),
-        first_letter: first_letter(named, equinox),
-        second_letter: second_letter(named, equinox),
+        letters: sunday_letters(named, equinox),
         limit: limit_of_year(named),
         key: (easter - equinox) as u64,
         easter,

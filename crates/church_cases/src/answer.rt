@@ -60,8 +60,8 @@ fn put_fields(out: &mut [u8; ROOM], at: usize, sheet: YearSheet) -> usize {
     end = put_spaced(out, end, sheet.golden);
     end = put_spaced(out, end, sheet.epact);
     end = put_spaced(out, end, bit(sheet.arabic));
-    end = put_spaced_letter(out, end, sheet.first_letter);
-    end = put_spaced_letter(out, end, sheet.second_letter);
+    end = put_spaced_letter(out, end, sheet.letters.first);
+    end = put_spaced_letter(out, end, sheet.letters.second);
     end = put_spaced(out, end, sheet.limit);
     end = put_spaced(out, end, sheet.key);
     put_spaced(out, end, sheet.easter as u64)

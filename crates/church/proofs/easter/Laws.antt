@@ -64,7 +64,7 @@ unfolding limit
 limit-range s y = omega (arith, luna-range s y)
 
 -- days of March counted from the 21st
-pub march-from : (s : Style) (y d : ℕ) → 21 ≤ d → march s y d ≡ march s y 21 + (d - 21)
+pub march-from : (s : Style) (y d : ℕ) → 21 ≤ d → march s y d ≡ march s y 21 + d - 21
 unfolding march dayNumber
 march-from s y d h = omega arith
 

@@ -14,27 +14,28 @@ pub golden-range : (y : ℕ) → (1 ≤ golden y) × (golden y ≤ 19)
 unfolding golden
 golden-range y = omega arith
 
--- 29 times a number is less that number, to the remainder by 30
-less-case : (x y : ℕ) (t : Bool) → ltb x y ≡ t → by30 (cond t (negsuc (y - suc x)) (pos (x - y))) ≡ (x + 29 * y) % 30
+-- adding 30 times what is taken away leaves the remainder by 30
+less-case : (x y : ℕ) (t : Bool) → ltb x y ≡ t → by30 (cond t (negsuc (y - suc x)) (pos (x - y))) ≡ (x + 30 * y - y) % 30
 less-case x y true e = omega (arith, ltb-true)
 less-case x y false e = omega (arith, ltb-false)
 
-less : (x y : ℕ) → by30 (subℕ x y) ≡ (x + 29 * y) % 30
+less : (x y : ℕ) → by30 (subℕ x y) ≡ (x + 30 * y - y) % 30
 less x y = less-case x y _ refl
 
-sum-case : (a b c : ℕ) (t : Bool) → ltb a c ≡ t → by30 (cond t (negsuc (c - suc a)) (pos (a - c)) +ℤ pos b) ≡ (a + 29 * c + b) % 30
+sum-case : (a b c : ℕ) (t : Bool) → ltb a c ≡ t → by30 (cond t (negsuc (c - suc a)) (pos (a - c)) +ℤ pos b) ≡ (a + 30 * c - c + b) % 30
 sum-case a b c true e =
-    let whole : a + 29 * c + b ≡ b + 29 * suc (c - suc a) + 30 * a = omega (arith, ltb-true) in
+    let whole : a + 30 * c - c + b ≡ b + 30 * suc (c - suc a) - suc (c - suc a) + 30 * a = omega (arith, ltb-true) in
     rw whole (less b (suc (c - suc a)) ∙ omega arith)
 sum-case a b c false e = omega (arith, ltb-false)
 
-sum : (a b c : ℕ) → by30 (pos a -ℤ pos c +ℤ pos b) ≡ (a + 29 * c + b) % 30
+sum : (a b c : ℕ) → by30 (pos a -ℤ pos c +ℤ pos b) ≡ (a + 30 * c - c + b) % 30
 sum a b zero = omega arith
 sum a b (suc c) = sum-case a b (suc c) _ refl
 
-pub epact-closed : (y : ℕ) → epact Gregorian y ≡ (11 * (golden y - 1) + 8 + y / 100 / 4 + 29 * (y / 100) + (8 * (y / 100) + 13) / 25) % 30
-unfolding epact
-epact-closed y = sum (11 * (golden y - 1) + 8 + y / 100 / 4) ((8 * (y / 100) + 13) / 25) (y / 100)
+pub sum-closed : (g c : ℕ) → by30 (gregorianSum g c) ≡ (11 * (g - 1) + 8 + (c / 4 + 30 * c - c) + (8 * c + 13) / 25) % 30
+sum-closed g c =
+    let same : 11 * (g - 1) + 8 + c / 4 + 30 * c - c + (8 * c + 13) / 25 ≡ 11 * (g - 1) + 8 + (c / 4 + 30 * c - c) + (8 * c + 13) / 25 = omega arith in
+    rw (← same) (sum (11 * (g - 1) + 8 + c / 4) ((8 * c + 13) / 25) c)
 
 by30-small : (z : ℤ) → by30 z ≤ 29
 by30-small (pos n) = omega arith

@@ -22,8 +22,11 @@ one-sheet s y r r′ h h′ =
       golden = (h .its-golden ∙ sym (h′ .its-golden)) i;
       epact = (h .its-epact ∙ sym (h′ .its-epact)) i;
       arabic = (h .its-arabic ∙ sym (h′ .its-arabic)) i;
-      «first_letter» = (one-letter s y first _ (h .its-first) ∙ sym (one-letter s y first _ (h′ .its-first))) i;
-      «second_letter» = (one-letter s y second _ (h .its-second) ∙ sym (one-letter s y second _ (h′ .its-second))) i;
+      letters =
+          record {
+            first = (one-letter s y first _ (h .its-first) ∙ sym (one-letter s y first _ (h′ .its-first))) i;
+            second = (one-letter s y second _ (h .its-second) ∙ sym (one-letter s y second _ (h′ .its-second))) i;
+          };
       limit = (h .its-limit ∙ sym (h′ .its-limit)) i;
       key = (h .its-key ∙ sym (h′ .its-key)) i;
       easter = (h .its-easter ∙ sym (h′ .its-easter)) i;

@@ -10,17 +10,17 @@ use Rattle.church.proofs.easter.easter_from.Tie as tie
 size : (c : tie.After-limit-of-year) → (21 ≤ c .limit-of-year .result) × (c .limit-of-year .result ≤ 49)
 size c = rw (c .limit-of-year .ensures) (limit-range _ _)
 
-sub-limit-day : tie.Need-sub-limit-day
-sub-limit-day c = size c .0
-
 cast-limit-day : tie.Need-cast-limit-day
 cast-limit-day c = omega (arith, size c)
 
 add-limit-day : tie.Need-add-limit-day
 add-limit-day c = omega (arith, size c, c .before .pre .1)
 
+sub-limit-day : tie.Need-sub-limit-day
+sub-limit-day c = omega (arith, size c)
+
 cast-result : tie.Need-cast-result
-cast-result c = let day = c .before .before .args .equinox + (c .before .limit-of-year .result - 21) in
+cast-result c = let day = c .before .before .args .equinox + c .before .limit-of-year .result - 21 in
     rw (c .first-weekday .ensures) (omega (arith, size (c .before), c .before .before .pre .1, is-later 7 day (omega arith) (omega arith)))
 
 returns : tie.Need-returns
@@ -32,9 +32,9 @@ easter-from-spec =
     tie.close
     (tie.spec
     (λ c κs. search needs)
-    sub-limit-day
     cast-limit-day
     add-limit-day
+    sub-limit-day
     (λ c κs. search needs)
     cast-result
     returns)

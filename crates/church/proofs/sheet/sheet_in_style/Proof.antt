@@ -18,28 +18,25 @@ easter-from-requires : tie.Need-easter-from-requires
 easter-from-requires c κs = let d = is-day (c .before) in
     (sym (d .1), rw (← d .1) (equinox-small _ _ (d .0) .1))
 
-first-letter-requires : tie.Need-first-letter-requires
-first-letter-requires c κs = sym (is-day (c .before .before .before .before .before .before) .1)
+sunday-letters-requires : tie.Need-sunday-letters-requires
+sunday-letters-requires c κs = sym (is-day (c .before .before .before .before .before .before) .1)
 
-second-letter-requires : tie.Need-second-letter-requires
-second-letter-requires c κs = sym (is-day (c .before .before .before .before .before .before .before) .1)
-
-sub-t15 : tie.Need-sub-t15
-sub-t15 c = let named = c .before .before .before .before .before .before .before .before .before .before .before .before .args .named in
-    rw (c .before .before .before .before .before .before .before .easter-from .ensures, ← is-day (c .before .before .before .before .before .before .before .before .before) .1) (omega (arith, easter-facts (named .style) (named .year)))
+sub-t14 : tie.Need-sub-t14
+sub-t14 c = let named = c .before .before .before .before .before .before .before .before .before .before .before .args .named in
+    rw (c .before .before .before .before .before .before .easter-from .ensures, ← is-day (c .before .before .before .before .before .before .before .before) .1) (omega (arith, easter-facts (named .style) (named .year)))
 
 returns-2 : tie.Need-returns-2
 unfolding key
-returns-2 c = let d = is-day (c .before .before .before .before .before .before .before .before .before) in
-    let easter-is = c .before .before .before .before .before .before .before .easter-from .ensures in (
+returns-2 c = let d = is-day (c .before .before .before .before .before .before .before .before) in
+    let easter-is = c .before .before .before .before .before .before .easter-from .ensures in (
       d .0,
       record {
-        its-leap = c .before .before .before .before .before .before .is-leap .ensures;
-        its-golden = c .before .before .before .before .before .golden-number .ensures;
-        its-epact = c .before .before .before .before .epact-number .ensures;
-        its-arabic = c .before .before .before .is-arabic .ensures;
-        its-first = c .before .before .first-letter .ensures;
-        its-second = c .before .second-letter .ensures;
+        its-leap = c .before .before .before .before .before .is-leap .ensures;
+        its-golden = c .before .before .before .before .golden-number .ensures;
+        its-epact = c .before .before .before .epact-number .ensures;
+        its-arabic = c .before .before .is-arabic .ensures;
+        its-first = c .before .sunday-letters .ensures .0;
+        its-second = c .before .sunday-letters .ensures .1;
         its-limit = c .limit-of-year .ensures;
         its-key = rw (easter-is, ← d .1);
         its-easter = easter-is;
@@ -59,9 +56,8 @@ sheet-in-style-spec =
     (λ c κs. search needs)
     (λ c κs. search needs)
     (λ c κs. search needs)
-    first-letter-requires
-    second-letter-requires
+    sunday-letters-requires
     (λ c κs. search needs)
-    sub-t15
+    sub-t14
     (λ c. search needs)
     returns-2)
