@@ -24,7 +24,7 @@ fn stands_at(style: Style, epact: u64, arabic: bool, day: u64) -> bool
                 return day + epact == 31;
             }
             if epact == 24 {
-                return day == 36;
+                return day + epact == 60;
             }
             if epact == 25 {
                 if arabic {

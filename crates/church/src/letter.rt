@@ -18,20 +18,21 @@ fn letter_after(n: u32) -> u8
     b'A' + (n % 7) as u8
 }
 
-// The letters on which the year's Sundays fall, told by the day of 21 March.
-pub(crate) fn sunday_letters(named: NamedYear, equinox: u32) -> SundayLetters
+// The letter of the Sundays up to 28 February, told by the day of 21 March.
+pub(crate) fn first_letter(named: NamedYear, equinox: u32) -> u8
     requires { ⌜ equinox ≡ march (named .style) (named .year) 21 ⌝ }
-    ensures { λ r. ⌜ SundayLetter (named .style) (named .year) first (r .first) × SundayLetter (named .style) (named .year) second (r .second) ⌝ }
+    ensures { λ r. ⌜ SundayLetter (named .style) (named .year) first r ⌝ }
 {
-    let second = letter_after(8 - equinox % 7);
     if is_leap(named) {
-        return SundayLetters {
-            first: letter_after(9 - equinox % 7),
-            second,
-        };
+        return letter_after(9 - equinox % 7);
     }
-    SundayLetters {
-        first: second,
-        second,
-    }
+    letter_after(8 - equinox % 7)
+}
+
+// The letter of the Sundays from 1 March on, told by the day of 21 March.
+pub(crate) fn second_letter(named: NamedYear, equinox: u32) -> u8
+    requires { ⌜ equinox ≡ march (named .style) (named .year) 21 ⌝ }
+    ensures { λ r. ⌜ SundayLetter (named .style) (named .year) second r ⌝ }
+{
+    letter_after(8 - equinox % 7)
 }

@@ -6,7 +6,8 @@ use crate::epact::epact_number;
 use crate::epact::golden_number;
 use crate::epact::is_arabic;
 use crate::letter::SundayLetters;
-use crate::letter::sunday_letters;
+use crate::letter::first_letter;
+use crate::letter::second_letter;
 use calendar::refusal::Refusal;
 use calendar::span::DayAnswer;
 use calendar::style::StyleAnswer;
@@ -46,14 +47,17 @@ pub fn sheet_in_style(named: NamedYear) -> SheetAnswer
         DayAnswer::NoDay(refusal) => return SheetAnswer::NoSheet(refusal),
     };
     let easter = easter_from(named, equinox);
+    let key = (easter - equinox) as u64;
+    let first = first_letter(named, equinox);
+    let second = second_letter(named, equinox);
     SheetAnswer::Sheet(YearSheet {
         leap: is_leap(named),
         golden: golden_number(named),
         epact: epact_number(named),
         arabic: is_arabic(named),
-        letters: sunday_letters(named, equinox),
+        letters: SundayLetters { first, second },
         limit: limit_of_year(named),
-        key: (easter - equinox) as u64,
+        key,
         easter,
     })
 }

@@ -30,7 +30,7 @@ abbrev pub agrees : Style → ℕ → Bool → ℕ → Bool
 agrees Julian e a d = cond (ltb d 34) (eqb (d + e) 34) (eqb (d + e) 64)
 agrees Gregorian e a d =
     cond (ltb d 32) (eqb (d + e) 31)
-    (cond (eqb e 24) (eqb d 36)
+    (cond (eqb e 24) (eqb (d + e) 60)
     (cond (eqb e 25) (cond a (eqb d 35) (eqb d 36))
     (eqb (d + e) 61)))
 

@@ -41,6 +41,7 @@ stands-at-spec =
     (λ c. search needs)
     (λ c. search needs)
     returns-2
+    (λ c. search needs)
     returns-3
     returns-4
     returns-5

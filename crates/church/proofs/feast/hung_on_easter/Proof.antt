@@ -1,12 +1,12 @@
 use mathlib.Core.Bool.{true}
 use mathlib.Core.Path.{_≡_, sym, _∙_}
-use Prim.Native.Nat.{_≤_, _+_, _-_}
+use Prim.Native.Nat.{_+_, _-_, _≤_}
 use native.Mathlib.Omega.{arith}
 use lib.ListN.{getD}
 use borrow.Author.Needs.{needs}
 use Rattle.calendar.proofs.refusal.Laws.{passed-day, refused}
 use Rattle.church.proofs.easter.Laws.{easter-small}
-use Rattle.church.proofs.feast.Laws.{from-easter-small, fromEaster, hung-day}
+use Rattle.church.proofs.feast.Laws.{fromEaster, hung-day, from-easter-small}
 use Rattle.calendar.specs.Refusal.{unless}
 use Rattle.calendar.specs.Span.{within}
 use Rattle.church.specs.Easter.{easter, hasEaster}
@@ -30,6 +30,9 @@ returns c = let named = c .before .before .before .args .named in
 is-day : (c : tie.After-answer) → (hasEaster (c .before .before .before .args .named .style) (c .before .before .before .args .named .year) ≡ true) × (easter (c .before .before .before .args .named .style) (c .before .before .before .args .named .year) ≡ c .answer .given .0 .0)
 is-day c = passed-day _ _ _ _ (sym (c .before .before .easter-of-year .ensures) ∙ c .answer .given .1)
 
+returns-2 : tie.Need-returns-2
+returns-2 c = rw (hung (c .before .before .before .before .before), is-day (c .before .before) .0, is-day (c .before .before) .1) (c .day-within .ensures)
+
 sizes : (c : tie.After-answer) → (1721424 ≤ c .answer .given .0 .0) × (c .answer .given .0 .0 ≤ 5373592)
 sizes c = rw (← is-day c .1) (easter-small _ _ (is-day c .0))
 
@@ -38,9 +41,6 @@ add-day-within c = omega (arith, sizes (c .before), from-easter-small (c .before
 
 sub-day-within : tie.Need-sub-day-within
 sub-day-within c = omega (arith, sizes (c .before))
-
-returns-2 : tie.Need-returns-2
-returns-2 c = rw (hung (c .before .before .before .before .before), is-day (c .before .before) .0, is-day (c .before .before) .1) (c .day-within .ensures)
 
 pub hung-on-easter-spec : {M : Type 1} → statement M
 hung-on-easter-spec =

@@ -18,25 +18,28 @@ easter-from-requires : tie.Need-easter-from-requires
 easter-from-requires c κs = let d = is-day (c .before) in
     (sym (d .1), rw (← d .1) (equinox-small _ _ (d .0) .1))
 
-sunday-letters-requires : tie.Need-sunday-letters-requires
-sunday-letters-requires c κs = sym (is-day (c .before .before .before .before .before .before) .1)
+sub-key : tie.Need-sub-key
+sub-key c = let named = c .before .before .before .before .before .args .named in
+    rw (c .easter-from .ensures, ← is-day (c .before .before) .1) (omega (arith, easter-facts (named .style) (named .year)))
 
-sub-t14 : tie.Need-sub-t14
-sub-t14 c = let named = c .before .before .before .before .before .before .before .before .before .before .before .args .named in
-    rw (c .before .before .before .before .before .before .easter-from .ensures, ← is-day (c .before .before .before .before .before .before .before .before) .1) (omega (arith, easter-facts (named .style) (named .year)))
+first-letter-requires : tie.Need-first-letter-requires
+first-letter-requires c κs = sym (is-day (c .before .before) .1)
+
+second-letter-requires : tie.Need-second-letter-requires
+second-letter-requires c κs = sym (is-day (c .before .before .before) .1)
 
 returns-2 : tie.Need-returns-2
 unfolding key
-returns-2 c = let d = is-day (c .before .before .before .before .before .before .before .before) in
-    let easter-is = c .before .before .before .before .before .before .easter-from .ensures in (
+returns-2 c = let d = is-day (c .before .before .before .before .before .before .before .before .before) in
+    let easter-is = c .before .before .before .before .before .before .before .easter-from .ensures in (
       d .0,
       record {
-        its-leap = c .before .before .before .before .before .is-leap .ensures;
-        its-golden = c .before .before .before .before .golden-number .ensures;
-        its-epact = c .before .before .before .epact-number .ensures;
-        its-arabic = c .before .before .is-arabic .ensures;
-        its-first = c .before .sunday-letters .ensures .0;
-        its-second = c .before .sunday-letters .ensures .1;
+        its-leap = c .before .before .before .before .is-leap .ensures;
+        its-golden = c .before .before .before .golden-number .ensures;
+        its-epact = c .before .before .epact-number .ensures;
+        its-arabic = c .before .is-arabic .ensures;
+        its-first = c .before .before .before .before .before .before .first-letter .ensures;
+        its-second = c .before .before .before .before .before .second-letter .ensures;
         its-limit = c .limit-of-year .ensures;
         its-key = rw (easter-is, ← d .1);
         its-easter = easter-is;
@@ -52,12 +55,13 @@ sheet-in-style-spec =
     (λ c. search needs)
     returns
     easter-from-requires
-    (λ c κs. search needs)
-    (λ c κs. search needs)
-    (λ c κs. search needs)
-    (λ c κs. search needs)
-    sunday-letters-requires
-    (λ c κs. search needs)
-    sub-t14
+    sub-key
     (λ c. search needs)
+    first-letter-requires
+    second-letter-requires
+    (λ c κs. search needs)
+    (λ c κs. search needs)
+    (λ c κs. search needs)
+    (λ c κs. search needs)
+    (λ c κs. search needs)
     returns-2)
