@@ -9,8 +9,8 @@ check: kit
 
 # The worked calls with their answers, from the proved library.
 answers: kit
-	@rt check days_cases >&2
-	@cat target/log/days_cases.stdout
+	@rt check days_cases church_cases >&2
+	@cat target/log/days_cases.stdout target/log/church_cases.stdout
 
 # The kit is the one that the project is proved with.
 kit:

@@ -16,84 +16,84 @@ ghost use Rattle.church.specs.Feast.{advent, rule, ruleDay, feastInYear,
 
 // The days from Easter of the feasts 1 to 23, with 63 added to each.
 const FROM_EASTER: [u64; 23] = [
-    0,
-    7,
-    14,
-    17,
-    21,
-    28,
-    35,
-    42,
-    49,
-    56,
-    60,
-    61,
-    63,
-    70,
-    77,
-    84,
-    91,
-    98,
-    102,
-    105,
-    112,
-    119,
-    123,
+    0, // septuagesima
+    7, // sexagesima
+    14, // estomihi
+    17, // ashes
+    21, // invocavit
+    28, // reminiscere
+    35, // oculi
+    42, // laetare
+    49, // judica
+    56, // palms
+    60, // cena
+    61, // parasceve
+    63, // easter
+    70, // quasimodo
+    77, // misericordia
+    84, // jubilate
+    91, // cantate
+    98, // rogate
+    102, // ascension
+    105, // exaudi
+    112, // pentecost
+    119, // trinity
+    123, // corpus
 ];
 
 // The days and the months of the feasts 24 to 47.
 const FIXED_DAYS: [u64; 24] = [
-    1,
-    6,
-    2,
-    24,
-    25,
-    25,
-    1,
-    24,
-    29,
-    22,
-    25,
-    10,
-    15,
-    24,
-    21,
-    29,
-    18,
-    28,
-    1,
-    11,
-    30,
-    6,
-    21,
-    25,
+    1, // circumcision
+    6, // epiphany
+    2, // candlemas
+    24, // matthias
+    25, // annunciation
+    25, // mark
+    1, // philip
+    24, // baptist
+    29, // peter
+    22, // magdalene
+    25, // james
+    10, // laurence
+    15, // assumption
+    24, // bartholomew
+    21, // matthew
+    29, // michael
+    18, // luke
+    28, // simon
+    1, // saints
+    11, // martin
+    30, // andrew
+    6, // nicholas
+    21, // thomas
+    25, // christmas
 ];
 
 const FIXED_MONTHS: [u64; 24] = [
-    1,
-    1,
-    2,
-    2,
-    3,
-    4,
-    5,
-    6,
-    6,
-    7,
-    7,
-    8,
-    8,
-    8,
-    9,
-    9,
-    10,
-    10,
-    11,
-    11,
-    11,
-    12,
-    12,
-    12,
+    1, // circumcision
+    1, // epiphany
+    2, // candlemas
+    2, // matthias
+    3, // annunciation
+    4, // mark
+    5, // philip
+    6, // baptist
+    6, // peter
+    7, // magdalene
+    7, // james
+    8, // laurence
+    8, // assumption
+    8, // bartholomew
+    9, // matthew
+    9, // michael
+    10, // luke
+    10, // simon
+    11, // saints
+    11, // martin
+    11, // andrew
+    12, // nicholas
+    12, // thomas
+    12, // christmas
 ];
 
 // The day of a feast that hangs on Easter.

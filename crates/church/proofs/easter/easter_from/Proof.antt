@@ -24,7 +24,8 @@ sub-limit-day : tie.Need-sub-limit-day
 sub-limit-day c = omega (arith, size c)
 
 cast-result : tie.Need-cast-result
-cast-result c = let day = c .before .before .args .equinox + c .before .limit-of-year .result - 21 in
+cast-result c =
+    let day = c .before .before .args .equinox + c .before .limit-of-year .result - 21 in
     rw (c .first-weekday .ensures) (omega (arith, size (c .before), c .before .before .pre .1, is-later 7 day (omega arith) (omega arith)))
 
 pub easter-from-spec : {M : Type 1} → statement M

@@ -8,15 +8,19 @@ use Rattle.church.proofs.easter.easter_of_year.Statement.{statement}
 use Rattle.church.proofs.easter.easter_of_year.Tie as tie
 
 returns : tie.Need-returns
-returns c = let named = c .before .before .before .args .named in
+returns c =
+    let named = c .before .before .before .args .named in
     let e = c .before .before .equinox .ensures in
     e ∙ refused (hasEaster (named .style) (named .year)) _ _ _ _ (sym e ∙ c .enum-told .given .1)
 
-is-day : (c : tie.After-answer) → (hasEaster (c .before .before .before .args .named .style) (c .before .before .before .args .named .year) ≡ true) × (march (c .before .before .before .args .named .style) (c .before .before .before .args .named .year) 21 ≡ c .answer .given .0 .0)
+is-day : (c : tie.After-answer)
+    → (hasEaster (c .before .before .before .args .named .style) (c .before .before .before .args .named .year) ≡ true)
+    × (march (c .before .before .before .args .named .style) (c .before .before .before .args .named .year) 21 ≡ c .answer .given .0 .0)
 is-day c = passed-day _ _ _ _ (sym (c .before .before .equinox .ensures) ∙ c .answer .given .1)
 
 easter-from-requires : tie.Need-easter-from-requires
-easter-from-requires c κs = let d = is-day (c .before) in
+easter-from-requires c κs =
+    let d = is-day (c .before) in
     (sym (d .1), rw (← d .1) (equinox-small _ _ (d .0) .1))
 
 returns-2 : tie.Need-returns-2

@@ -36,7 +36,8 @@ returns-3 c = rw (in-list (c .before .before .before)) (c .fixed .ensures)
 
 returns-4 : tie.Need-returns-4
 unfolding feastInYear
-returns-4 c = let last : c .before .before .before .before .before .args .feast ≡ 48 = omega (arith, listed (c .before .before .before)) in
+returns-4 c =
+    let last : c .before .before .before .before .before .args .feast ≡ 48 = omega (arith, listed (c .before .before .before)) in
     rw (in-list (c .before .before .before), last) (c .advent-of-year .ensures)
 
 pub feast-in-year-spec : {M : Type 1} → statement M

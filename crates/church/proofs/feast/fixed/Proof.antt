@@ -7,7 +7,8 @@ use Rattle.church.proofs.feast.fixed.Statement.{statement}
 use Rattle.church.proofs.feast.fixed.Tie as tie
 
 returns : tie.Need-returns
-returns c = let i = c .before .args .feast - 24 in
+returns c =
+    let i = c .before .args .feast - 24 in
     let f : i + 24 ≡ c .before .args .feast = omega (arith, c .before .pre) in
     c .day-in-year .ensures ∙ sym (rw f at (fixed-day (c .before .args .named) i (omega (arith, c .before .pre))))
 

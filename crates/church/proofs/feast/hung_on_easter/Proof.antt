@@ -16,18 +16,23 @@ use Rattle.calendar.specs.declared.span.DayAnswer.the-variants.{NoDay}
 use Rattle.church.proofs.feast.hung_on_easter.Statement.{statement}
 use Rattle.church.proofs.feast.hung_on_easter.Tie as tie
 
-hung : (c : tie.Start) → ruleDay (c .args .named) (rule (c .args .feast)) ≡ unless (hasEaster (c .args .named .style) (c .args .named .year)) (NoDay Year) (within (c .args .named .style) (easter (c .args .named .style) (c .args .named .year) + getD fromEaster (c .args .feast - 1) 0 - 63))
+hung : (c : tie.Start)
+    → ruleDay (c .args .named) (rule (c .args .feast))
+    ≡ unless (hasEaster (c .args .named .style) (c .args .named .year)) (NoDay Year) (within (c .args .named .style) (easter (c .args .named .style) (c .args .named .year) + getD fromEaster (c .args .feast - 1) 0 - 63))
 hung c =
     let i = c .args .feast - 1 in
     let f : i + 1 ≡ c .args .feast = omega (arith, c .pre) in
     rw f at (hung-day (c .args .named) i (omega (arith, c .pre)))
 
 returns : tie.Need-returns
-returns c = let named = c .before .before .before .args .named in
+returns c =
+    let named = c .before .before .before .args .named in
     let e = c .before .before .easter-of-year .ensures in
     rw (hung (c .before .before .before)) (e ∙ refused (hasEaster (named .style) (named .year)) _ _ _ _ (sym e ∙ c .enum-told .given .1))
 
-is-day : (c : tie.After-answer) → (hasEaster (c .before .before .before .args .named .style) (c .before .before .before .args .named .year) ≡ true) × (easter (c .before .before .before .args .named .style) (c .before .before .before .args .named .year) ≡ c .answer .given .0 .0)
+is-day : (c : tie.After-answer)
+    → (hasEaster (c .before .before .before .args .named .style) (c .before .before .before .args .named .year) ≡ true)
+    × (easter (c .before .before .before .args .named .style) (c .before .before .before .args .named .year) ≡ c .answer .given .0 .0)
 is-day c = passed-day _ _ _ _ (sym (c .before .before .easter-of-year .ensures) ∙ c .answer .given .1)
 
 returns-2 : tie.Need-returns-2

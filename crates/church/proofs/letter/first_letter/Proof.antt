@@ -6,7 +6,8 @@ use Rattle.church.specs.Letter.{first, SundayLetter}
 use Rattle.church.proofs.letter.first_letter.Statement.{statement}
 use Rattle.church.proofs.letter.first_letter.Tie as tie
 
-letter : (c : tie.Start) → SundayLetter (c .args .named .style) (c .args .named .year) first (closed first (leap (c .args .named .style) (c .args .named .year)) (c .args .equinox))
+letter : (c : tie.Start)
+    → SundayLetter (c .args .named .style) (c .args .named .year) first (closed first (leap (c .args .named .style) (c .args .named .year)) (c .args .equinox))
 letter c = rw (c .pre) (sundays _ _ first)
 
 returns : tie.Need-returns

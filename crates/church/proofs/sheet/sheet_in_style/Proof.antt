@@ -8,18 +8,22 @@ use Rattle.church.specs.Easter.{march, key, hasEaster}
 use Rattle.church.proofs.sheet.sheet_in_style.Statement.{statement}
 use Rattle.church.proofs.sheet.sheet_in_style.Tie as tie
 
-is-day : (c : tie.After-day) → (hasEaster (c .before .before .before .args .named .style) (c .before .before .before .args .named .year) ≡ true) × (march (c .before .before .before .args .named .style) (c .before .before .before .args .named .year) 21 ≡ c .day .given .0 .0)
+is-day : (c : tie.After-day)
+    → (hasEaster (c .before .before .before .args .named .style) (c .before .before .before .args .named .year) ≡ true)
+    × (march (c .before .before .before .args .named .style) (c .before .before .before .args .named .year) 21 ≡ c .day .given .0 .0)
 is-day c = passed-day _ _ _ _ (sym (c .before .before .equinox .ensures) ∙ c .day .given .1)
 
 returns : tie.Need-returns
 returns c = refused-by _ _ _ _ (sym (c .before .before .before .equinox .ensures) ∙ c .before .refusal .given .1)
 
 easter-from-requires : tie.Need-easter-from-requires
-easter-from-requires c κs = let d = is-day (c .before) in
+easter-from-requires c κs =
+    let d = is-day (c .before) in
     (sym (d .1), rw (← d .1) (equinox-small _ _ (d .0) .1))
 
 sub-key : tie.Need-sub-key
-sub-key c = let named = c .before .before .before .before .before .args .named in
+sub-key c =
+    let named = c .before .before .before .before .before .args .named in
     rw (c .easter-from .ensures, ← is-day (c .before .before) .1) (omega (arith, easter-facts (named .style) (named .year)))
 
 first-letter-requires : tie.Need-first-letter-requires
@@ -30,7 +34,8 @@ second-letter-requires c κs = sym (is-day (c .before .before .before) .1)
 
 returns-2 : tie.Need-returns-2
 unfolding key
-returns-2 c = let d = is-day (c .before .before .before .before .before .before .before .before .before) in
+returns-2 c =
+    let d = is-day (c .before .before .before .before .before .before .before .before .before) in
     let easter-is = c .before .before .before .before .before .before .before .easter-from .ensures in (
       d .0,
       record {
