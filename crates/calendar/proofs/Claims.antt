@@ -104,7 +104,7 @@ first-after w n low high =
     let f = is-later w n low high in
     (f .0, f .2, λ m later falls. omega (arith, f))
 
--- The first weekday before a day is earlier, falls on that weekday, and no day between does.
+-- The first weekday before a day from 7 on is earlier, falls on that weekday, and no day between does.
 pub first-before : (w n : ℕ) → 1 ≤ w → w ≤ 7 → 7 ≤ n
     → (firstWeekday Before w n < n) × (weekday (firstWeekday Before w n) ≡ w) × ((m : ℕ) → m < n → weekday m ≡ w → m ≤ firstWeekday Before w n)
 first-before w n low high late =

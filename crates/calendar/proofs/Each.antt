@@ -1,6 +1,6 @@
 -- A test that antt computes at each number below a bound, and what it says at one of them.
 use mathlib.Core.Bool.{Bool, true, false, _&&_}
-use mathlib.Core.Path.{subst}
+use mathlib.Core.Path.{_≡_, refl, subst}
 use Prim.Native.Nat.{ℕ, zero, suc, _<_}
 use native.Mathlib.Decide.{decLt}
 use native.Mathlib.Omega.{arith}
@@ -13,6 +13,10 @@ each f (suc n) = f n && each f n
 pub T-both : (a b : Bool) → T (a && b) → T a × T b
 T-both true b t = (tt, t)
 T-both false b t = absurd t
+
+pub is-true : (b : Bool) → T b → b ≡ true
+is-true true t = refl
+is-true false t = absurd t
 
 pub below : (f : ℕ → Bool) (n : ℕ) → T (each f n) → (k : ℕ) → k < n → T (f k)
 below f zero t k h = absurd (omega arith)

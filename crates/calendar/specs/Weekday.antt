@@ -17,6 +17,9 @@ use Rattle.calendar.specs.declared.weekday.WeekdayAnswer.{WeekdayAnswer}
 abbrev pub weekday : ℕ → ℕ
 weekday n = n % 7 + 1
 
+abbrev pub sunday : ℕ
+sunday = 7
+
 -- "The call takes a style and a day of that style's span.": refused by 6
 abbrev pub weekdayInStyle : Style → ℕ → WeekdayAnswer
 weekdayInStyle s n = unless (inSpan s n) (NoWeekday Span) (Weekday (weekday n))
@@ -35,7 +38,7 @@ abbrev pub weekdayOrZero : WeekdayAnswer → ℕ
 weekdayOrZero (Weekday w) = w
 weekdayOrZero (NoWeekday x) = 0
 
--- the next day on a side; there is none before the day 0
+-- the next day on a side; before the day 0 it is 0 again
 abbrev pub neighbour : Side → ℕ → ℕ
 neighbour After n = suc n
 neighbour Before n = pred n

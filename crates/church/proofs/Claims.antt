@@ -4,36 +4,52 @@ use mathlib.Core.Logic.{_↔_}
 use mathlib.Core.Path.{_≡_, refl, sym, _∙_}
 use Prim.Native.Nat.{ℕ, suc, pred, _+_, _≤_, _<_}
 use native.Mathlib.Omega.{arith}
+use lib.IntN.{ℤ, pos, _+ℤ_, _*ℤ_}
+use lib.ListN.{length}
 use Rattle.calendar.specs.Date.{daysOfMonths, isDate, dayNumber}
-use Rattle.calendar.specs.Weekday.{weekday}
+use Rattle.calendar.specs.Weekday.{weekday, sunday}
 use Rattle.calendar.specs.Year.{leap, newYear}
+use Rattle.calendar.specs.declared.refusal.Refusal.the-variants.{Date}
+use Rattle.calendar.specs.declared.span.DayAnswer.the-variants.{NoDay}
+use Rattle.calendar.specs.declared.style.Style.the-variants.{Gregorian}
 use Rattle.calendar.specs.declared.style.Style.{Style}
+use Rattle.calendar.specs.declared.year.NamedYear.{NamedYear}
 use Rattle.church.proofs.column.Laws.{walked}
 use Rattle.church.proofs.easter.Laws as easter-laws
-use Rattle.church.proofs.feast.Laws.{week-long, advent-after, advent-week}
+use Rattle.church.proofs.epact.Laws as epact-laws
+use Rattle.church.proofs.feast.Laws.{week-long, advent-after, advent-week, feast-never-5}
 use Rattle.church.proofs.letter.Laws as letter-laws
 use Rattle.church.proofs.sheet.Laws as sheet-laws
 use Rattle.church.specs.Column.{stands, luna}
-use Rattle.church.specs.Easter.{sunday, limit, march, easter, key}
-use Rattle.church.specs.Epact.{epact, arabic}
-use Rattle.church.specs.Feast.{adventSunday}
+use Rattle.church.specs.Easter.{limit, march, easter, key}
+use Rattle.church.specs.Epact.{golden, hundreds, gregorianSum, epact, arabic}
+use Rattle.church.specs.Feast.{feasts, adventSunday, feastInYear}
 use Rattle.church.specs.Letter.{letterOf, Part, first, second, inPart, SundayLetter}
-use Rattle.church.specs.Sheet.{IsSheetInStyle, IsSheetOfYear}
+use Rattle.church.specs.Sheet.{IsSheetInYear, IsSheetOfYear}
 use Rattle.church.specs.declared.sheet.SheetAnswer.{SheetAnswer}
 
 -- Any two answers that the year sheet may give are equal.
 pub one-answer : (k y : ℕ) (r r′ : SheetAnswer) → IsSheetOfYear k y r → IsSheetOfYear k y r′ → r ≡ r′
 one-answer k y r r′ h h′ = sheet-laws.one-answer k y r r′ h h′
 
+pub one-answer-in-year : (t : NamedYear) (r r′ : SheetAnswer) → IsSheetInYear t r → IsSheetInYear t r′ → r ≡ r′
+one-answer-in-year t r r′ h h′ = sheet-laws.one-in-year t r r′ h h′
+
+-- An epact is the remainder by 30 of its sum, also where that is negative.
+pub epact-remainder : (y : ℕ)
+    → (epact Gregorian y ≤ 29) × ((q : ℤ) × (pos 30 *ℤ q +ℤ pos (epact Gregorian y) ≡ gregorianSum (golden y) (hundreds y)))
+unfolding epact
+epact-remainder y = (epact-laws.epact-small Gregorian y, epact-laws.by30-rest (gregorianSum (golden y) (hundreds y)))
+
 -- The walk finds a day of the column at which the year's epact stands.
 pub luna-found : (s : Style) (y : ℕ) → (8 ≤ luna s y) × (luna s y ≤ 36) × (stands s (epact s y) (arabic s y) (luna s y) ≡ true)
 unfolding luna
 luna-found s y = (walked s y .low, walked s y .high, walked s y .there)
 
--- The year's epact stands at one day of the column only.
-pub one-luna : (s : Style) (y d : ℕ) → 8 ≤ d → d ≤ 36 → stands s (epact s y) (arabic s y) d ≡ true → d ≡ luna s y
+-- The year's epact stands at one day only.
+pub one-luna : (s : Style) (y d : ℕ) → stands s (epact s y) (arabic s y) d ≡ true → d ≡ luna s y
 unfolding luna
-one-luna s y d low high h = walked s y .once d low high h
+one-luna s y d h = walked s y .once d h
 
 -- The limit lies from 21 to 49.
 pub limit-range : (s : Style) (y : ℕ) → (21 ≤ limit s y) × (limit s y ≤ 49)
@@ -74,6 +90,13 @@ letter-borne s y p l m d h is-date in-part =
 pub common-letters : (s : Style) (y l l′ : ℕ) → leap s y ≡ false → SundayLetter s y first l → SundayLetter s y second l′ → l ≡ l′
 common-letters s y l l′ common h h′ =
     letter-laws.one-letter s y first l h ∙ rw common refl ∙ sym (letter-laws.one-letter s y second l′ h′)
+
+-- There are 48 feasts, and none is refused by 5.
+pub forty-eight : length feasts ≡ 48
+forty-eight = refl
+
+pub never-5 : (t : NamedYear) (f : ℕ) → feastInYear t f ≡ NoDay Date → ⊥
+never-5 t f h = feast-never-5 t f h
 
 -- Advent is a Sunday from 27 November to 3 December, and the only one.
 pub advent-sunday : (s : Style) (y : ℕ)

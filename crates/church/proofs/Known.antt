@@ -1,4 +1,4 @@
--- What the scope names of years: rows of one table, under one claim.
+-- Years that the scope names, and 1900, the first G year whose epact has a negative sum: rows of one table, under one claim.
 use mathlib.Core.Bool.{Bool, true, false}
 use mathlib.Core.List.{List, [], _∷_}
 use mathlib.Core.Path.{_≡_, refl}
@@ -24,7 +24,7 @@ use Rattle.church.specs.Letter.{Part, first, second, SundayLetter}
 
 -- what is said of a year, and what a feast's call answers in it
 pub data Row : Type 0 where
-  golden-number : (year : ℕ) → Style → ℕ → Row
+  golden-number : (year : ℕ) → ℕ → Row
   year-epact : (year : ℕ) → Style → ℕ → Row
   is-arabic : (year : ℕ) → Style → Bool → Row
   sunday-letter : (year : ℕ) → Style → Part → ℕ → Row
@@ -32,18 +32,20 @@ pub data Row : Type 0 where
   limit-falls : (year : ℕ) → Style → (on-weekday : ℕ) → Row
   easter-on : (year : ℕ) → Style → (day month : ℕ) → Row
   easter-key : (year : ℕ) → Style → ℕ → Row
-  feast-in : (year : ℕ) → Style → (feast answer : ℕ) → Row
+  feast-on : (year : ℕ) → Style → (feast day month : ℕ) → Row
+  feast-refused : (year : ℕ) → Style → (feast refusal : ℕ) → Row
 
 abbrev pub Holds : Row → Type 0
-Holds (golden-number y s g) = golden y ≡ g
+Holds (golden-number y g) = golden y ≡ g
 Holds (year-epact y s e) = epact s y ≡ e
 Holds (is-arabic y s a) = arabic s y ≡ a
 Holds (sunday-letter y s p l) = SundayLetter s y p l
-Holds (limit-on y s d m) = march s y (limit s y) ≡ dayNumber s y m d
+Holds (limit-on y s d m) = dayOfDate (styleNumber s) y m d ≡ Day (march s y (limit s y))
 Holds (limit-falls y s w) = weekday (march s y (limit s y)) ≡ w
 Holds (easter-on y s d m) = dayOfDate (styleNumber s) y m d ≡ Day (easter s y)
 Holds (easter-key y s k) = key s y ≡ k
-Holds (feast-in y s f a) = dayOrRefusal (feastOfYear (styleNumber s) f y) ≡ a
+Holds (feast-on y s f d m) = feastOfYear (styleNumber s) f y ≡ Day (dayNumber s y m d)
+Holds (feast-refused y s f x) = dayOrRefusal (feastOfYear (styleNumber s) f y) ≡ x
 
 abbrev pub table : List Row
 table =
@@ -51,12 +53,12 @@ table =
     ∷ limit-on 2025 Gregorian 13 4
     ∷ limit-falls 2025 Gregorian 7
     ∷ easter-on 2025 Gregorian 20 4
-    ∷ golden-number 1954 Gregorian 17
+    ∷ golden-number 1954 17
     ∷ year-epact 1954 Gregorian 25
     ∷ is-arabic 1954 Gregorian true
     ∷ limit-on 1954 Gregorian 17 4
     ∷ easter-on 1954 Gregorian 18 4
-    ∷ golden-number 1810 Gregorian 6
+    ∷ golden-number 1810 6
     ∷ year-epact 1810 Gregorian 25
     ∷ is-arabic 1810 Gregorian false
     ∷ limit-on 1810 Gregorian 18 4
@@ -66,14 +68,17 @@ table =
     ∷ easter-on 1981 Gregorian 19 4
     ∷ easter-key 1818 Gregorian 1
     ∷ easter-key 1943 Gregorian 35
-    ∷ golden-number 1225 Julian 10
+    ∷ golden-number 1225 10
     ∷ sunday-letter 1225 Julian first (code "E")
     ∷ sunday-letter 1225 Julian second (code "E")
     ∷ limit-on 1225 Julian 27 3
     ∷ easter-on 1225 Julian 30 3
-    ∷ feast-in 1582 Gregorian 48 2299205
-    ∷ feast-in 1582 Gregorian 25 6
-    ∷ feast-in 1582 Gregorian 13 4
+    ∷ feast-on 1582 Gregorian 48 28 11
+    ∷ feast-refused 1582 Gregorian 25 6
+    ∷ feast-refused 1582 Gregorian 13 4
+    ∷ year-epact 1900 Gregorian 29
+    ∷ limit-on 1900 Gregorian 14 4
+    ∷ easter-on 1900 Gregorian 15 4
     ∷ []
 
 pub known : All Holds table
@@ -85,5 +90,6 @@ known =
     also refl also refl also refl
     also refl also refl
     also refl also sundays Julian 1225 first also sundays Julian 1225 second also refl also refl
+    also refl also refl also refl
     also refl also refl also refl
     also none

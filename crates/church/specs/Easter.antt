@@ -3,16 +3,12 @@ use mathlib.Core.Bool.{Bool, false, _&&_, not}
 use Prim.Native.Nat.{ℕ, _+_, _-_}
 use lib.Dec.{eqb}
 use Rattle.calendar.specs.Date.{dayNumber}
-use Rattle.calendar.specs.Weekday.{firstWeekday}
+use Rattle.calendar.specs.Weekday.{sunday, firstWeekday}
 use Rattle.calendar.specs.Year.{served}
 use Rattle.calendar.specs.declared.style.Style.the-variants.{Julian, Gregorian}
 use Rattle.calendar.specs.declared.style.Style.{Style}
 use Rattle.calendar.specs.declared.weekday.Side.the-variants.{After}
 use Rattle.church.specs.Column.{luna}
-
--- "1 Monday to 7 Sunday"
-abbrev pub sunday : ℕ
-sunday = 7
 
 -- "The limit is thirteen days after Luna I.", a day of March run on past 31
 unfoldable pub limit : Style → ℕ → ℕ
@@ -35,6 +31,6 @@ abbrev pub reformYear : Style → ℕ → Bool
 reformYear Julian y = false
 reformYear Gregorian y = eqb y 1582
 
--- refusal 4: a year that is not served, and "G 1582 for the year sheet or a feast hung on Easter"
+-- the years whose sheet and Easter are answered; the others are refused by 4: those not served, and "G 1582 for the year sheet or a feast hung on Easter"
 unfoldable pub hasEaster : Style → ℕ → Bool
 hasEaster s y = served s y && not (reformYear s y)

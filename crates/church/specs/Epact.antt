@@ -14,7 +14,7 @@ golden y = y % 19 + 1
 abbrev pub hundreds : ℕ → ℕ
 hundreds y = y / 100
 
--- "the remainder by 30, from 0 to 29", of a negative sum too
+-- "the remainder by 30, from 0 to 29", of a negative sum too; "Zero is the star, a value like any other"
 abbrev pub by30 : ℤ → ℕ
 by30 (pos n) = n % 30
 by30 (negsuc n) = 29 - n % 30

@@ -9,14 +9,14 @@ use Rattle.calendar.specs.Refusal.{unless}
 use Rattle.calendar.specs.Search.{firstOf}
 use Rattle.calendar.specs.Span.{within}
 use Rattle.calendar.specs.Style.{styleOf, inStyle}
-use Rattle.calendar.specs.Weekday.{fallsOn}
+use Rattle.calendar.specs.Weekday.{sunday, fallsOn}
 use Rattle.calendar.specs.Year.{named, served}
 use Rattle.calendar.specs.declared.refusal.Refusal.the-variants.{Name, Year}
 use Rattle.calendar.specs.declared.span.DayAnswer.the-variants.{NoDay}
 use Rattle.calendar.specs.declared.span.DayAnswer.{DayAnswer}
 use Rattle.calendar.specs.declared.style.Style.{Style}
 use Rattle.calendar.specs.declared.year.NamedYear.{NamedYear}
-use Rattle.church.specs.Easter.{sunday, easter, hasEaster}
+use Rattle.church.specs.Easter.{easter, hasEaster}
 
 -- when a feast is kept: so many days before or after Easter, on a day of a month, or as advent
 pub data Rule : Type 0 where
@@ -87,16 +87,20 @@ feasts =
 
 -- the rule of the feast with the number f from 1 to 48
 abbrev pub rule : ℕ → Rule
-rule f = ruleOf (getD feasts (pred f) ("" is advent))
+rule f = ruleOf (getD feasts (pred f) ("" is on 0 0))
 
 -- "advent is the Sunday from 27 November to 3 December": the first of these seven days that is a Sunday
 unfoldable pub adventSunday : Style → ℕ → ℕ
 adventSunday s y = firstOf suc (fallsOn sunday) 7 (dayNumber s y 11 27)
 
--- the day of a rule in the named year t, refused by 4 or 6; a feast hung on Easter is refused in G 1582
+-- a day hung on the Easter of the named year t, refused by 4 or 6
+abbrev pub hungDay : NamedYear → ℕ → DayAnswer
+hungDay t n = unless (hasEaster (t .style) (t .year)) (NoDay Year) (within (t .style) n)
+
+-- the day of a rule in the named year t
 abbrev pub ruleDay : NamedYear → Rule → DayAnswer
-ruleDay t (before k) = unless (hasEaster (t .style) (t .year)) (NoDay Year) (within (t .style) (easter (t .style) (t .year) - k))
-ruleDay t (after k) = unless (hasEaster (t .style) (t .year)) (NoDay Year) (within (t .style) (easter (t .style) (t .year) + k))
+ruleDay t (before k) = hungDay t (easter (t .style) (t .year) - k)
+ruleDay t (after k) = hungDay t (easter (t .style) (t .year) + k)
 ruleDay t (on d m) = dayInYear t m d
 ruleDay t advent = unless (served (t .style) (t .year)) (NoDay Year) (within (t .style) (adventSunday (t .style) (t .year)))
 

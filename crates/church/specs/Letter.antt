@@ -5,9 +5,8 @@ use Prim.Native.Char.{code}
 use Prim.Native.Nat.{ℕ, pred, _+_, _%_}
 use lib.Dec.{eqb, leb}
 use Rattle.calendar.specs.Date.{daysOfMonths, isDate, dayNumber}
-use Rattle.calendar.specs.Weekday.{weekday}
+use Rattle.calendar.specs.Weekday.{weekday, sunday}
 use Rattle.calendar.specs.declared.style.Style.{Style}
-use Rattle.church.specs.Easter.{sunday}
 
 -- "1 January is A, then B to G over and over": the byte of the letter that comes n days after A
 abbrev pub letterAfter : ℕ → ℕ

@@ -27,10 +27,10 @@ pub record IsSheet (s : Style) (y : ℕ) (r : YearSheet) : Type 0 where
   pub its-easter : r .easter ≡ easter s y
 
 -- what the sheet of the named year t may be: refused by 4, and else as above
-abbrev pub IsSheetInStyle : NamedYear → SheetAnswer → Type 0
-IsSheetInStyle t (Sheet r) = (hasEaster (t .style) (t .year) ≡ true) × IsSheet (t .style) (t .year) r
-IsSheetInStyle t (NoSheet x) = (hasEaster (t .style) (t .year) ≡ false) × (x ≡ Year)
+abbrev pub IsSheetInYear : NamedYear → SheetAnswer → Type 0
+IsSheetInYear t (Sheet r) = (hasEaster (t .style) (t .year) ≡ true) × IsSheet (t .style) (t .year) r
+IsSheetInYear t (NoSheet x) = (hasEaster (t .style) (t .year) ≡ false) × (x ≡ Year)
 
 -- year sheet in the style with the number k: refused by 1, and else as in the style
 abbrev pub IsSheetOfYear : ℕ → ℕ → SheetAnswer → Type 0
-IsSheetOfYear k y r = inStyle (λ x. r ≡ NoSheet x) (λ s. IsSheetInStyle (named s y) r) (styleOf k)
+IsSheetOfYear k y r = inStyle (λ x. r ≡ NoSheet x) (λ s. IsSheetInYear (named s y) r) (styleOf k)

@@ -12,7 +12,8 @@ pub(crate) fn golden_number(named: NamedYear) -> u64
     named.year % 19 + 1
 }
 
-// The Gregorian epact; 30 times the hundreds are added, so that no sum is negative.
+// The Gregorian epact, of up to the hundreds of the largest 64-bit year; 30 times the hundreds are
+// added, so that no sum is negative.
 fn gregorian_epact(golden_number: u64, hundreds: u64) -> u64
     requires { ⌜ (1 ≤ «golden_number») × («golden_number» ≤ 19) × (hundreds ≤ 184467440737095516) ⌝ }
     ensures { λ r. ⌜ r ≡ by30 (gregorianSum «golden_number» hundreds) ⌝ }

@@ -16,29 +16,29 @@ ghost use Rattle.church.specs.Feast.{advent, rule, ruleDay, feastInYear,
 
 // The days from Easter of the feasts 1 to 23, with 63 added to each.
 const FROM_EASTER: [u64; 23] = [
-    0, // septuagesima
-    7, // sexagesima
-    14, // estomihi
-    17, // ashes
-    21, // invocavit
-    28, // reminiscere
-    35, // oculi
-    42, // laetare
-    49, // judica
-    56, // palms
-    60, // cena
-    61, // parasceve
-    63, // easter
-    70, // quasimodo
-    77, // misericordia
-    84, // jubilate
-    91, // cantate
-    98, // rogate
-    102, // ascension
-    105, // exaudi
-    112, // pentecost
-    119, // trinity
-    123, // corpus
+    0, // septuagesima (-63)
+    7, // sexagesima (-56)
+    14, // estomihi (-49)
+    17, // ashes (-46)
+    21, // invocavit (-42)
+    28, // reminiscere (-35)
+    35, // oculi (-28)
+    42, // laetare (-21)
+    49, // judica (-14)
+    56, // palms (-7)
+    60, // cena (-3)
+    61, // parasceve (-2)
+    63, // easter (0)
+    70, // quasimodo (7)
+    77, // misericordia (14)
+    84, // jubilate (21)
+    91, // cantate (28)
+    98, // rogate (35)
+    102, // ascension (39)
+    105, // exaudi (42)
+    112, // pentecost (49)
+    119, // trinity (56)
+    123, // corpus (60)
 ];
 
 // The days and the months of the feasts 24 to 47.

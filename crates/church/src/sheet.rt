@@ -14,7 +14,7 @@ use calendar::style::StyleAnswer;
 use calendar::style::style_of;
 use calendar::year::NamedYear;
 use calendar::year::is_leap;
-ghost use Rattle.church.specs.Sheet.{IsSheetInStyle, IsSheetOfYear};
+ghost use Rattle.church.specs.Sheet.{IsSheetInYear, IsSheetOfYear};
 
 // What the church's tables tell of a year.
 pub struct YearSheet {
@@ -39,8 +39,8 @@ pub enum SheetAnswer {
 }
 
 // The sheet of a named year.
-pub fn sheet_in_style(named: NamedYear) -> SheetAnswer
-    ensures { λ r. ⌜ IsSheetInStyle named r ⌝ }
+pub fn sheet_in_year(named: NamedYear) -> SheetAnswer
+    ensures { λ r. ⌜ IsSheetInYear named r ⌝ }
 {
     let equinox = match equinox(named) {
         DayAnswer::Day(day) => day,
@@ -67,7 +67,7 @@ pub fn sheet_of_year(style: u64, year: u64) -> SheetAnswer
     ensures { λ r. ⌜ IsSheetOfYear style year r ⌝ }
 {
     match style_of(style) {
-        StyleAnswer::Known(known) => sheet_in_style(NamedYear { style: known, year }),
+        StyleAnswer::Known(known) => sheet_in_year(NamedYear { style: known, year }),
         StyleAnswer::NoStyle(refusal) => SheetAnswer::NoSheet(refusal),
     }
 }

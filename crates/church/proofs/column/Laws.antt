@@ -1,10 +1,11 @@
 -- The column: the code's test of a day, and the one day at which a year's epact stands.
-use mathlib.Core.Bool.{Bool, true, false, _&&_, _||_, not, cond, or-true}
+use mathlib.Core.Bool.{Bool, true, false, _&&_, _||_, not, cond, or-true, and-eq-true-iff}
 use mathlib.Core.Path.{_≡_, refl, sym, subst}
 use Prim.Native.Nat.{ℕ, suc, _+_, _-_, _*_, _%_, _≤_, _<_}
 use native.Mathlib.Omega.{arith}
+use borrow.Author.Tests.{eqb-true}
 use lib.Dec.{T, leb, ltb, eqb, leb→le, eqb→eq}
-use Rattle.calendar.proofs.Each.{each, below, of-both, T-both}
+use Rattle.calendar.proofs.Each.{each, below, of-both, T-both, is-true}
 use Rattle.calendar.proofs.range.Laws.{range}
 use Rattle.calendar.specs.Range.{between}
 use Rattle.calendar.specs.Search.{firstOf}
@@ -49,6 +50,39 @@ agreed s e a d h low high =
     let tested = below (λ i. same (agrees s e a (8 + i)) (stands s e a (8 + i))) 29 (agrees-tested s a e (omega arith)) (d - 8) (omega arith) in
     rw day at (is-same (agrees s e a (8 + (d - 8))) (stands s e a (8 + (d - 8))) tested)
 
+-- an epact stands at days of the column only
+either : {A : Type 0} (a b : Bool) → (a ≡ true → A) → (b ≡ true → A) → a || b ≡ true → A
+either true b f g h = f refl
+either false b f g h = g h
+
+at : (a : Bool) (d k : ℕ) → a && eqb d k ≡ true → (a ≡ true) × (d ≡ k)
+at a d k h =
+    let both = and-eq-true-iff a (eqb d k) .0 h in
+    (both .0, eqb-true d k (both .1))
+
+in-row : (e d first last k : ℕ) → 8 + last ≤ k → k ≤ 36 + first → last ≤ k → between first e last && eqb d (k - e) ≡ true → (8 ≤ d) × (d ≤ 36)
+in-row e d first last k low high small h =
+    let b = at (between first e last) d (k - e) h in
+    let r = range first e last (b .0) in
+    omega (arith, b .1)
+
+pub in-column : (s : Style) (e : ℕ) (a : Bool) (d : ℕ) → stands s e a d ≡ true → (8 ≤ d) × (d ≤ 36)
+unfolding stands
+in-column Julian e a d =
+    either _ _
+    (in-row e d 1 26 34 (omega arith) (omega arith) (omega arith))
+    (in-row e d 28 29 64 (omega arith) (omega arith) (omega arith))
+in-column Gregorian e a d =
+    either _ _
+    (either _ _
+    (either _ _
+    (either _ _
+    (in-row e d 0 23 31 (omega arith) (omega arith) (omega arith))
+    (in-row e d 26 29 61 (omega arith) (omega arith) (omega arith)))
+    (λ h. omega (arith, at (eqb e 25 && not a) d 36 h .1)))
+    (λ h. omega (arith, at (eqb e 24) d 36 h .1)))
+    (λ h. omega (arith, at (eqb e 25 && a) d 35 h .1))
+
 -- the epacts, below 30, that a year can have
 canHave : Style → ℕ → Bool → Bool
 canHave Julian e a = between 1 e 26 || between 28 e 29
@@ -85,15 +119,11 @@ unfolding walk-test implies canHave firstOf stands between
 walk-tested Julian a e h = of-both (walk-test Julian) 30 tt a e h
 walk-tested Gregorian a e h = of-both (walk-test Gregorian) 30 tt a e h
 
-is-true : (b : Bool) → T b → b ≡ true
-is-true true t = refl
-is-true false t = absurd t
-
 pub record Walked (s : Style) (e : ℕ) (a : Bool) : Type 0 where
   pub low : 8 ≤ walk s e a
   pub high : walk s e a ≤ 36
   pub there : stands s e a (walk s e a) ≡ true
-  pub once : (d : ℕ) → 8 ≤ d → d ≤ 36 → stands s e a d ≡ true → d ≡ walk s e a
+  pub once : (d : ℕ) → stands s e a d ≡ true → d ≡ walk s e a
 
 pub walked : (s : Style) (y : ℕ) → Walked s (epact s y) (arabic s y)
 unfolding walk-test
@@ -111,7 +141,8 @@ walked s y =
       high = r .1;
       there = is-true _ (t₂ .0);
       once =
-          λ d low high h.
+          λ d h.
+          let column = in-column s e a d h in
           let day : 8 + (d - 8) ≡ d = omega arith in
           let g = below only 29 (t₂ .1) (d - 8) (omega arith) in
           eqb→eq d p (follows (stands s e a d) (eqb d p) (rw day at g) (rw h tt));

@@ -13,14 +13,14 @@ use Rattle.calendar.specs.Date.{monthLength, daysOfMonths, isDate, dayNumber, d
 use Rattle.calendar.specs.Range.{between}
 use Rattle.calendar.specs.Refusal.{unless}
 use Rattle.calendar.specs.Span.{firstDay, inSpan, within}
-use Rattle.calendar.specs.Weekday.{weekday}
+use Rattle.calendar.specs.Weekday.{weekday, sunday}
 use Rattle.calendar.specs.Year.{named, leap, newYear, firstYear, served}
 use Rattle.calendar.specs.declared.refusal.Refusal.the-variants.{Year}
 use Rattle.calendar.specs.declared.span.DayAnswer.the-variants.{Day, NoDay}
 use Rattle.calendar.specs.declared.style.Style.the-variants.{Julian, Gregorian}
 use Rattle.calendar.specs.declared.style.Style.{Style}
 use Rattle.church.proofs.column.Laws.{luna-range}
-use Rattle.church.specs.Easter.{sunday, limit, march, easter, key, reformYear, hasEaster}
+use Rattle.church.specs.Easter.{limit, march, easter, key, reformYear, hasEaster}
 
 -- 21 March lies in the span in every served year but G 1582
 firstEaster : Style → ℕ

@@ -1,11 +1,11 @@
 -- Golden numbers and epacts.
 use mathlib.Core.Bool.{Bool, true, false, _&&_, _||_, not, cond}
-use mathlib.Core.Path.{_≡_, refl, _∙_}
+use mathlib.Core.Path.{_≡_, refl, _∙_, ap}
 use Prim.Native.Nat.{ℕ, zero, suc, _+_, _-_, _*_, _/_, _%_, _≤_, _<_}
 use native.Mathlib.Omega.{arith}
 use lib.Dec.{ltb}
-use lib.IntN.{ℤ, pos, negsuc, subℕ, _+ℤ_, _-ℤ_}
-use borrow.Author.Tests.{ltb-true, ltb-false, eq-eqb, ne-eqb}
+use lib.IntN.{ℤ, pos, negsuc, subℕ, _+ℤ_, _-ℤ_, _*ℤ_}
+use borrow.Author.Tests.{lt-ltb, ltb-true, ltb-false, eq-eqb, ne-eqb}
 use Rattle.calendar.specs.declared.style.Style.the-variants.{Julian, Gregorian}
 use Rattle.calendar.specs.declared.style.Style.{Style}
 use Rattle.church.specs.Epact.{golden, hundreds, by30, gregorianSum, epact, arabic}
@@ -36,6 +36,15 @@ pub sum-closed : (g c : ℕ) → by30 (gregorianSum g c) ≡ (11 * (g - 1) + 8 +
 sum-closed g c =
     let same : 11 * (g - 1) + 8 + c / 4 + 30 * c - c + (8 * c + 13) / 25 ≡ 11 * (g - 1) + 8 + (c / 4 + 30 * c - c) + (8 * c + 13) / 25 = omega arith in
     rw (← same) (sum (11 * (g - 1) + 8 + c / 4) ((8 * c + 13) / 25) c)
+
+-- by30 is the remainder by 30: the number is that and a multiple of 30
+pub by30-rest : (z : ℤ) → (q : ℤ) × (pos 30 *ℤ q +ℤ pos (by30 z) ≡ z)
+by30-rest (pos n) = (pos (n / 30), ap pos (omega arith))
+by30-rest (negsuc n) =
+    let k = 29 + 30 * (n / 30) in
+    let whole : 30 * suc (n / 30) ≡ suc k = omega arith in
+    let rest : k - (29 - n % 30) ≡ n = omega arith in
+    (negsuc (n / 30), rw (whole, lt-ltb (29 - n % 30) (suc k) (omega arith)) (ap negsuc (omega arith)))
 
 by30-small : (z : ℤ) → by30 z ≤ 29
 by30-small (pos n) = omega arith

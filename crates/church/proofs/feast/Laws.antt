@@ -1,30 +1,34 @@
 -- The code's tables of feasts, and advent.
 use mathlib.Core.Bool.{Bool, true, false, _&&_}
 use mathlib.Core.List.{List, [], _∷_}
-use mathlib.Core.Path.{_≡_, refl}
+use mathlib.Core.Path.{_≡_, refl, sym, ap}
 use Prim.Native.Nat.{ℕ, suc, pred, _+_, _-_, _≤_, _<_}
 use native.Mathlib.Omega.{arith}
 use lib.Dec.{T, leb, eqb, leb→le, eqb→eq}
 use lib.ListN.{getD}
-use Rattle.calendar.proofs.Each.{below, T-both}
+use Rattle.calendar.proofs.Each.{below, of-both, T-both, is-true}
 use Rattle.calendar.proofs.date.Laws.{date-in-span, answered}
+use Rattle.calendar.proofs.range.Laws.{range}
+use Rattle.calendar.proofs.refusal.Laws.{no-day}
 use Rattle.calendar.proofs.span.Laws.{served-range}
 use Rattle.calendar.proofs.weekday.Laws.{is-later}
 use Rattle.calendar.proofs.year.Laws.{new-year-closed}
-use Rattle.calendar.specs.Date.{daysOfMonths, isDate, dayNumber, dayInYear}
+use Rattle.calendar.specs.Date.{monthLength, daysOfMonths, isDate, dayNumber, dayInYear}
 use Rattle.calendar.specs.Range.{between}
-use Rattle.calendar.specs.Refusal.{unless}
-use Rattle.calendar.specs.Span.{firstDay, inSpan, within}
-use Rattle.calendar.specs.Weekday.{weekday, firstWeekday}
+use Rattle.calendar.specs.Refusal.{refusalNumber, unless}
+use Rattle.calendar.specs.Span.{firstDay, inSpan, within, dayOrRefusal}
+use Rattle.calendar.specs.Weekday.{weekday, sunday, firstWeekday}
 use Rattle.calendar.specs.Year.{named, leap, newYear, firstYear, served}
-use Rattle.calendar.specs.declared.refusal.Refusal.the-variants.{Year}
+use Rattle.calendar.specs.declared.refusal.Refusal.the-variants.{Name, Year, Date, Span}
+use Rattle.calendar.specs.declared.refusal.Refusal.{Refusal}
 use Rattle.calendar.specs.declared.span.DayAnswer.the-variants.{Day, NoDay}
+use Rattle.calendar.specs.declared.span.DayAnswer.{DayAnswer}
 use Rattle.calendar.specs.declared.style.Style.the-variants.{Julian, Gregorian}
 use Rattle.calendar.specs.declared.style.Style.{Style}
 use Rattle.calendar.specs.declared.weekday.Side.the-variants.{After}
 use Rattle.calendar.specs.declared.year.NamedYear.{NamedYear}
-use Rattle.church.specs.Easter.{sunday, easter, hasEaster}
-use Rattle.church.specs.Feast.{Rule, before, after, on, advent, rule, adventSunday, ruleDay}
+use Rattle.church.specs.Easter.{easter, hasEaster}
+use Rattle.church.specs.Feast.{Rule, before, after, on, advent, rule, adventSunday, ruleDay, feastInYear}
 
 -- the days from Easter with 63 added, the days and the months, as the code's tables have them
 abbrev pub fromEaster : List ℕ
@@ -136,3 +140,45 @@ advent-week s y =
     let f = is-later sunday (dayNumber s y 11 26) (omega arith) (omega arith) in
     let w = week-long s y in
     (f .2, omega arith, omega arith)
+
+-- no rule is a date that a year lacks
+good : Bool → Rule → Bool
+good b (before k) = true
+good b (after k) = true
+good b (on d m) = between 1 m 12 && between 1 d (monthLength b m)
+good b advent = true
+
+rules-good : (b : Bool) (i : ℕ) → i < 48 → T (good b (rule (i + 1)))
+unfolding good between
+rules-good b i h = of-both (λ b i. good b (rule (i + 1))) 48 tt b i h
+
+-- an answer behind a test that refuses by another number is not refused by 5
+no-5 : (t : Bool) (x : Refusal) (a : DayAnswer) → (refusalNumber x ≡ 5 → ⊥) → (a ≡ NoDay Date → ⊥) → unless t (NoDay x) a ≡ NoDay Date → ⊥
+no-5 true x a f g e = g e
+no-5 false x a f g e = f (ap dayOrRefusal e)
+
+year-no-5 : (t : Bool) (s : Style) (n : ℕ) → unless t (NoDay Year) (within s n) ≡ NoDay Date → ⊥
+unfolding within
+year-no-5 t s n =
+    no-5 t Year (unless (inSpan s n) (NoDay Span) (Day n)) (λ e. omega (arith, e))
+    (no-5 (inSpan s n) Span (Day n) (λ e. omega (arith, e)) (λ e. no-day Date n (sym e)))
+
+rule-no-5 : (t : NamedYear) (r : Rule) → T (good (leap (t .style) (t .year)) r) → ruleDay t r ≡ NoDay Date → ⊥
+unfolding good dayInYear isDate
+rule-no-5 t (before k) h = year-no-5 (hasEaster (t .style) (t .year)) (t .style) (easter (t .style) (t .year) - k)
+rule-no-5 t (after k) h = year-no-5 (hasEaster (t .style) (t .year)) (t .style) (easter (t .style) (t .year) + k)
+rule-no-5 t (on d m) h =
+    let is-date = is-true (between 1 m 12 && between 1 d (monthLength (leap (t .style) (t .year)) m)) h in
+    rw is-date (year-no-5 (served (t .style) (t .year)) (t .style) (dayNumber (t .style) (t .year) m d))
+rule-no-5 t advent h = year-no-5 (served (t .style) (t .year)) (t .style) (adventSunday (t .style) (t .year))
+
+feast-case : (t : NamedYear) (f : ℕ) (b : Bool) → between 1 f 48 ≡ b → unless b (NoDay Name) (ruleDay t (rule f)) ≡ NoDay Date → ⊥
+feast-case t f false e h = let z : _≡_ {A = ℕ} 1 5 = ap dayOrRefusal h in omega arith
+feast-case t f true e h =
+    let r = range 1 f 48 e in
+    let number : f - 1 + 1 ≡ f = omega arith in
+    rule-no-5 t (rule f) (rw number at (rules-good (leap (t .style) (t .year)) (f - 1) (omega arith))) h
+
+pub feast-never-5 : (t : NamedYear) (f : ℕ) → feastInYear t f ≡ NoDay Date → ⊥
+unfolding feastInYear
+feast-never-5 t f h = feast-case t f (between 1 f 48) refl h

@@ -10,10 +10,10 @@ use Rattle.calendar.proofs.date.Dates.{date-bounds}
 use Rattle.calendar.proofs.date.Months.{leap-day}
 use Rattle.calendar.specs.Date.{monthLength, daysOfMonths, isDate, dayNumber}
 use Rattle.calendar.specs.Range.{between}
-use Rattle.calendar.specs.Weekday.{weekday}
+use Rattle.calendar.specs.Weekday.{weekday, sunday}
 use Rattle.calendar.specs.Year.{leap, newYear}
 use Rattle.calendar.specs.declared.style.Style.{Style}
-use Rattle.church.specs.Easter.{sunday, march}
+use Rattle.church.specs.Easter.{march}
 use Rattle.church.specs.Letter.{letterAfter, letterOf, Part, first, second, inPart, SundayLetter}
 
 -- the leap day lies before the second part, and makes the first letter one later

@@ -10,7 +10,7 @@ use Rattle.calendar.specs.declared.style.StyleAnswer.{StyleAnswer}
 use Rattle.calendar.specs.declared.year.NamedYear.{NamedYear}
 use Rattle.church.proofs.letter.Laws.{one-letter}
 use Rattle.church.specs.Letter.{first, second}
-use Rattle.church.specs.Sheet.{IsSheet, IsSheetInStyle, IsSheetOfYear}
+use Rattle.church.specs.Sheet.{IsSheet, IsSheetInYear, IsSheetOfYear}
 use Rattle.church.specs.declared.sheet.SheetAnswer.the-variants.{Sheet, NoSheet}
 use Rattle.church.specs.declared.sheet.SheetAnswer.{SheetAnswer}
 use Rattle.church.specs.declared.sheet.YearSheet.{YearSheet}
@@ -32,15 +32,15 @@ one-sheet s y r r′ h h′ =
       easter = (h .its-easter ∙ sym (h′ .its-easter)) i;
     }
 
-pub one-in-style : (t : NamedYear) (r r′ : SheetAnswer) → IsSheetInStyle t r → IsSheetInStyle t r′ → r ≡ r′
-one-in-style t (Sheet r) (Sheet r′) h h′ = ap Sheet (one-sheet (t .style) (t .year) r r′ (h .1) (h′ .1))
-one-in-style t (Sheet r) (NoSheet x) h h′ = absurd (true≢false (sym (h .0) ∙ h′ .0))
-one-in-style t (NoSheet x) (Sheet r) h h′ = absurd (true≢false (sym (h′ .0) ∙ h .0))
-one-in-style t (NoSheet x) (NoSheet x′) h h′ = ap NoSheet (h .1 ∙ sym (h′ .1))
+pub one-in-year : (t : NamedYear) (r r′ : SheetAnswer) → IsSheetInYear t r → IsSheetInYear t r′ → r ≡ r′
+one-in-year t (Sheet r) (Sheet r′) h h′ = ap Sheet (one-sheet (t .style) (t .year) r r′ (h .1) (h′ .1))
+one-in-year t (Sheet r) (NoSheet x) h h′ = absurd (true≢false (sym (h .0) ∙ h′ .0))
+one-in-year t (NoSheet x) (Sheet r) h h′ = absurd (true≢false (sym (h′ .0) ∙ h .0))
+one-in-year t (NoSheet x) (NoSheet x′) h h′ = ap NoSheet (h .1 ∙ sym (h′ .1))
 
-one-by-number : (a : StyleAnswer) (y : ℕ) (r r′ : SheetAnswer) → inStyle (λ x. r ≡ NoSheet x) (λ s. IsSheetInStyle (named s y) r) a
-    → inStyle (λ x. r′ ≡ NoSheet x) (λ s. IsSheetInStyle (named s y) r′) a → r ≡ r′
-one-by-number (Known s) y r r′ h h′ = one-in-style (named s y) r r′ h h′
+one-by-number : (a : StyleAnswer) (y : ℕ) (r r′ : SheetAnswer) → inStyle (λ x. r ≡ NoSheet x) (λ s. IsSheetInYear (named s y) r) a
+    → inStyle (λ x. r′ ≡ NoSheet x) (λ s. IsSheetInYear (named s y) r′) a → r ≡ r′
+one-by-number (Known s) y r r′ h h′ = one-in-year (named s y) r r′ h h′
 one-by-number (NoStyle x) y r r′ h h′ = h ∙ sym h′
 
 pub one-answer : (k y : ℕ) (r r′ : SheetAnswer) → IsSheetOfYear k y r → IsSheetOfYear k y r′ → r ≡ r′

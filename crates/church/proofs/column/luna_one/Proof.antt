@@ -50,9 +50,8 @@ returns : tie.Need-returns Inv-loop μ-loop
 unfolding luna
 returns c =
     let at = column (c .before .before .before) in
-    let inv = c .before .before .loop .inv in
     rw (← c .before .before .before .before .epact-number .ensures, ← c .before .before .before .is-arabic .ensures)
-    (at .once _ (inv .0) (omega (arith, inv, at)) (sym (c .before .stands-at .ensures) ∙ c .if1 .taken))
+    (at .once _ (sym (c .before .stands-at .ensures) ∙ c .if1 .taken))
 
 pub luna-one-spec : {M : Type 1} → statement M
 luna-one-spec =

@@ -3,7 +3,7 @@ use Rattle.church.proofs.sheet.sheet_of_year.Statement.{statement}
 use Rattle.church.proofs.sheet.sheet_of_year.Tie as tie
 
 returns : tie.Need-returns
-returns c = rw (← c .before .before .before .before .style-of .ensures, c .before .before .known .given .1) (c .sheet-in-style .ensures)
+returns c = rw (← c .before .before .before .before .style-of .ensures, c .before .before .known .given .1) (c .sheet-in-year .ensures)
 
 returns-2 : tie.Need-returns-2
 returns-2 c = rw (← c .before .before .before .style-of .ensures, c .before .refusal .given .1)

@@ -5,8 +5,8 @@ use borrow.Author.Needs.{needs}
 use Rattle.calendar.proofs.refusal.Laws.{passed-day, refused-by}
 use Rattle.church.proofs.easter.Laws.{equinox-small, easter-facts}
 use Rattle.church.specs.Easter.{march, key, hasEaster}
-use Rattle.church.proofs.sheet.sheet_in_style.Statement.{statement}
-use Rattle.church.proofs.sheet.sheet_in_style.Tie as tie
+use Rattle.church.proofs.sheet.sheet_in_year.Statement.{statement}
+use Rattle.church.proofs.sheet.sheet_in_year.Tie as tie
 
 is-day : (c : tie.After-day)
     → (hasEaster (c .before .before .before .args .named .style) (c .before .before .before .args .named .year) ≡ true)
@@ -51,8 +51,8 @@ returns-2 c =
       },
     )
 
-pub sheet-in-style-spec : {M : Type 1} → statement M
-sheet-in-style-spec =
+pub sheet-in-year-spec : {M : Type 1} → statement M
+sheet-in-year-spec =
     tie.close
     (tie.spec
     (λ c κs. search needs)
