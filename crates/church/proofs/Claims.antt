@@ -1,31 +1,31 @@
 -- What holds of the year sheet and the feasts beyond the contracts, for all years from 1 on in both styles.
-use mathlib.Core.Bool.{true, false, cond}
+use mathlib.Core.Bool.{true, false}
 use mathlib.Core.Logic.{_↔_}
 use mathlib.Core.Path.{_≡_, refl, sym, _∙_}
-use Prim.Native.Nat.{ℕ, suc, pred, _+_, _≤_, _<_}
+use Prim.Native.Nat.{ℕ, _+_, _≤_, _<_}
 use native.Mathlib.Omega.{arith}
 use lib.IntN.{ℤ, pos, _+ℤ_, _*ℤ_}
 use lib.ListN.{length}
-use Rattle.calendar.specs.Date.{daysOfMonths, isDate, dayNumber}
-use Rattle.calendar.specs.Weekday.{weekday, sunday}
-use Rattle.calendar.specs.Year.{leap, newYear}
-use Rattle.calendar.specs.declared.refusal.Refusal.the-variants.{Date}
-use Rattle.calendar.specs.declared.span.DayAnswer.the-variants.{NoDay}
-use Rattle.calendar.specs.declared.style.Style.the-variants.{Gregorian}
-use Rattle.calendar.specs.declared.style.Style.{Style}
-use Rattle.calendar.specs.declared.year.NamedYear.{NamedYear}
 use Rattle.church.proofs.column.Laws.{walked}
 use Rattle.church.proofs.easter.Laws as easter-laws
 use Rattle.church.proofs.epact.Laws as epact-laws
 use Rattle.church.proofs.feast.Laws.{week-long, advent-after, advent-week, feast-never-5}
 use Rattle.church.proofs.letter.Laws as letter-laws
 use Rattle.church.proofs.sheet.Laws as sheet-laws
+use Rattle.calendar.specs.Date.{isDate, dayNumber}
+use Rattle.calendar.specs.Weekday.{weekday, sunday}
+use Rattle.calendar.specs.Year.{leap}
 use Rattle.church.specs.Column.{stands, luna}
 use Rattle.church.specs.Easter.{limit, march, easter, key}
 use Rattle.church.specs.Epact.{golden, hundreds, gregorianSum, epact, arabic}
 use Rattle.church.specs.Feast.{feasts, adventSunday, feastInYear}
 use Rattle.church.specs.Letter.{letterOf, Part, first, second, inPart, SundayLetter}
 use Rattle.church.specs.Sheet.{IsSheetInYear, IsSheetOfYear}
+use Rattle.calendar.specs.declared.refusal.Refusal.the-variants.{Date}
+use Rattle.calendar.specs.declared.span.DayAnswer.the-variants.{NoDay}
+use Rattle.calendar.specs.declared.style.Style.the-variants.{Gregorian}
+use Rattle.calendar.specs.declared.style.Style.{Style}
+use Rattle.calendar.specs.declared.year.NamedYear.{NamedYear}
 use Rattle.church.specs.declared.sheet.SheetAnswer.{SheetAnswer}
 
 -- Any two answers that the year sheet may give are equal.

@@ -5,6 +5,7 @@ use mathlib.Core.Path.{_≡_, refl}
 use Prim.Native.Char.{code}
 use Prim.Native.Nat.{ℕ}
 use Rattle.calendar.proofs.Table.{All, none, _also_}
+use Rattle.church.proofs.letter.Laws.{sundays}
 use Rattle.calendar.specs.Date.{daysOfMonths, isDate, dayNumber, dayInYear, dayOfDate}
 use Rattle.calendar.specs.Range.{between}
 use Rattle.calendar.specs.Search.{firstOf}
@@ -12,15 +13,14 @@ use Rattle.calendar.specs.Span.{inSpan, within, dayOrRefusal}
 use Rattle.calendar.specs.Style.{styleNumber, styleOf}
 use Rattle.calendar.specs.Weekday.{weekday, firstWeekday}
 use Rattle.calendar.specs.Year.{daysOfYears, newYear, served}
-use Rattle.calendar.specs.declared.span.DayAnswer.the-variants.{Day}
-use Rattle.calendar.specs.declared.style.Style.the-variants.{Julian, Gregorian}
-use Rattle.calendar.specs.declared.style.Style.{Style}
-use Rattle.church.proofs.letter.Laws.{sundays}
 use Rattle.church.specs.Column.{stands, luna}
 use Rattle.church.specs.Easter.{limit, march, easter, key, hasEaster}
 use Rattle.church.specs.Epact.{golden, epact, arabic}
 use Rattle.church.specs.Feast.{adventSunday, feastInYear, feastOfYear}
 use Rattle.church.specs.Letter.{Part, first, second, SundayLetter}
+use Rattle.calendar.specs.declared.span.DayAnswer.the-variants.{Day}
+use Rattle.calendar.specs.declared.style.Style.the-variants.{Julian, Gregorian}
+use Rattle.calendar.specs.declared.style.Style.{Style}
 
 -- what is said of a year, and what a feast's call answers in it
 pub data Row : Type 0 where

@@ -4,9 +4,9 @@ use Prim.Native.Nat.{ℕ, suc, _-_}
 use lib.Dec.{eqb}
 use Rattle.calendar.specs.Range.{between}
 use Rattle.calendar.specs.Search.{firstOf}
+use Rattle.church.specs.Epact.{epact, arabic}
 use Rattle.calendar.specs.declared.style.Style.the-variants.{Julian, Gregorian}
 use Rattle.calendar.specs.declared.style.Style.{Style}
-use Rattle.church.specs.Epact.{epact, arabic}
 
 -- whether the epact e stands at the day d; a is whether it is the Arabic 25
 -- "J: epacts 1 to 26 stand at 34 less the epact, 28 and 29 at 64 less it."

@@ -5,10 +5,10 @@ use lib.Dec.{eqb}
 use Rattle.calendar.specs.Date.{dayNumber}
 use Rattle.calendar.specs.Weekday.{sunday, firstWeekday}
 use Rattle.calendar.specs.Year.{served}
+use Rattle.church.specs.Column.{luna}
 use Rattle.calendar.specs.declared.style.Style.the-variants.{Julian, Gregorian}
 use Rattle.calendar.specs.declared.style.Style.{Style}
 use Rattle.calendar.specs.declared.weekday.Side.the-variants.{After}
-use Rattle.church.specs.Column.{luna}
 
 -- "The limit is thirteen days after Luna I.", a day of March run on past 31
 unfoldable pub limit : Style → ℕ → ℕ

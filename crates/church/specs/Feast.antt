@@ -11,12 +11,12 @@ use Rattle.calendar.specs.Span.{within}
 use Rattle.calendar.specs.Style.{styleOf, inStyle}
 use Rattle.calendar.specs.Weekday.{sunday, fallsOn}
 use Rattle.calendar.specs.Year.{named, served}
+use Rattle.church.specs.Easter.{easter, hasEaster}
 use Rattle.calendar.specs.declared.refusal.Refusal.the-variants.{Name, Year}
 use Rattle.calendar.specs.declared.span.DayAnswer.the-variants.{NoDay}
 use Rattle.calendar.specs.declared.span.DayAnswer.{DayAnswer}
 use Rattle.calendar.specs.declared.style.Style.{Style}
 use Rattle.calendar.specs.declared.year.NamedYear.{NamedYear}
-use Rattle.church.specs.Easter.{easter, hasEaster}
 
 -- when a feast is kept: so many days before or after Easter, on a day of a month, or as advent
 pub data Rule : Type 0 where

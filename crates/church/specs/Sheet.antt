@@ -4,12 +4,12 @@ use mathlib.Core.Path.{_≡_}
 use Prim.Native.Nat.{ℕ}
 use Rattle.calendar.specs.Style.{styleOf, inStyle}
 use Rattle.calendar.specs.Year.{named, leap}
-use Rattle.calendar.specs.declared.refusal.Refusal.the-variants.{Year}
-use Rattle.calendar.specs.declared.style.Style.{Style}
-use Rattle.calendar.specs.declared.year.NamedYear.{NamedYear}
 use Rattle.church.specs.Easter.{limit, easter, key, hasEaster}
 use Rattle.church.specs.Epact.{golden, epact, arabic}
 use Rattle.church.specs.Letter.{first, second, SundayLetter}
+use Rattle.calendar.specs.declared.refusal.Refusal.the-variants.{Year}
+use Rattle.calendar.specs.declared.style.Style.{Style}
+use Rattle.calendar.specs.declared.year.NamedYear.{NamedYear}
 use Rattle.church.specs.declared.sheet.SheetAnswer.the-variants.{Sheet, NoSheet}
 use Rattle.church.specs.declared.sheet.SheetAnswer.{SheetAnswer}
 use Rattle.church.specs.declared.sheet.YearSheet.{YearSheet}

@@ -3,17 +3,17 @@ use mathlib.Core.Bool.{Bool, true, false, _&&_, _||_, not, cond, or-true, and-eq
 use mathlib.Core.Path.{_≡_, refl, sym, subst}
 use Prim.Native.Nat.{ℕ, suc, _+_, _-_, _*_, _%_, _≤_, _<_}
 use native.Mathlib.Omega.{arith}
+use lib.Dec.{T, ltb, eqb, eqb→eq}
 use borrow.Author.Tests.{eqb-true}
-use lib.Dec.{T, leb, ltb, eqb, leb→le, eqb→eq}
 use Rattle.calendar.proofs.Each.{each, below, of-both, T-both, is-true}
 use Rattle.calendar.proofs.range.Laws.{range}
+use Rattle.church.proofs.epact.Laws.{epact-small}
 use Rattle.calendar.specs.Range.{between}
 use Rattle.calendar.specs.Search.{firstOf}
-use Rattle.calendar.specs.declared.style.Style.the-variants.{Julian, Gregorian}
-use Rattle.calendar.specs.declared.style.Style.{Style}
-use Rattle.church.proofs.epact.Laws.{epact-small}
 use Rattle.church.specs.Column.{stands, luna}
 use Rattle.church.specs.Epact.{golden, epact, arabic}
+use Rattle.calendar.specs.declared.style.Style.the-variants.{Julian, Gregorian}
+use Rattle.calendar.specs.declared.style.Style.{Style}
 
 same : Bool → Bool → Bool
 same true b = b

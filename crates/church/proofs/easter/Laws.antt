@@ -1,26 +1,25 @@
 -- 21 March, the limit and Easter.
-use mathlib.Core.Bool.{Bool, true, false, _&&_, not, and-true, and-false, and-eq-true-iff}
-use mathlib.Core.Path.{_≡_, refl, sym, _∙_}
-use Prim.Native.Nat.{ℕ, suc, pred, _+_, _-_, _%_, _≤_, _<_}
+use mathlib.Core.Bool.{true, false, not, and-true, and-false, and-eq-true-iff}
+use mathlib.Core.Path.{_≡_, refl}
+use Prim.Native.Nat.{ℕ, _+_, _-_, _≤_, _<_}
 use native.Mathlib.Omega.{arith}
-use lib.Dec.{eqb}
 use borrow.Author.Tests.{eqb-false, not-true}
 use Rattle.calendar.proofs.date.Laws.{date-in-span, answered}
 use Rattle.calendar.proofs.span.Laws.{span-small, served-range}
 use Rattle.calendar.proofs.weekday.Laws.{is-later}
 use Rattle.calendar.proofs.year.Laws.{new-year-closed}
-use Rattle.calendar.specs.Date.{monthLength, daysOfMonths, isDate, dayNumber, dayInYear}
+use Rattle.church.proofs.column.Laws.{luna-range}
+use Rattle.calendar.specs.Date.{daysOfMonths, isDate, dayNumber, dayInYear}
 use Rattle.calendar.specs.Range.{between}
 use Rattle.calendar.specs.Refusal.{unless}
-use Rattle.calendar.specs.Span.{firstDay, inSpan, within}
+use Rattle.calendar.specs.Span.{firstDay, inSpan}
 use Rattle.calendar.specs.Weekday.{weekday, sunday}
-use Rattle.calendar.specs.Year.{named, leap, newYear, firstYear, served}
+use Rattle.calendar.specs.Year.{named, newYear, served}
+use Rattle.church.specs.Easter.{limit, march, easter, reformYear, hasEaster}
 use Rattle.calendar.specs.declared.refusal.Refusal.the-variants.{Year}
 use Rattle.calendar.specs.declared.span.DayAnswer.the-variants.{Day, NoDay}
 use Rattle.calendar.specs.declared.style.Style.the-variants.{Julian, Gregorian}
 use Rattle.calendar.specs.declared.style.Style.{Style}
-use Rattle.church.proofs.column.Laws.{luna-range}
-use Rattle.church.specs.Easter.{limit, march, easter, key, reformYear, hasEaster}
 
 -- 21 March lies in the span in every served year but G 1582
 firstEaster : Style → ℕ

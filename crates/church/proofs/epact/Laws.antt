@@ -1,14 +1,14 @@
 -- Golden numbers and epacts.
-use mathlib.Core.Bool.{Bool, true, false, _&&_, _||_, not, cond}
+use mathlib.Core.Bool.{Bool, true, false, cond}
 use mathlib.Core.Path.{_≡_, refl, _∙_, ap}
-use Prim.Native.Nat.{ℕ, zero, suc, _+_, _-_, _*_, _/_, _%_, _≤_, _<_}
+use Prim.Native.Nat.{ℕ, zero, suc, _+_, _-_, _*_, _/_, _%_, _≤_}
 use native.Mathlib.Omega.{arith}
 use lib.Dec.{ltb}
 use lib.IntN.{ℤ, pos, negsuc, subℕ, _+ℤ_, _-ℤ_, _*ℤ_}
 use borrow.Author.Tests.{lt-ltb, ltb-true, ltb-false, eq-eqb, ne-eqb}
+use Rattle.church.specs.Epact.{golden, hundreds, by30, gregorianSum, epact, arabic}
 use Rattle.calendar.specs.declared.style.Style.the-variants.{Julian, Gregorian}
 use Rattle.calendar.specs.declared.style.Style.{Style}
-use Rattle.church.specs.Epact.{golden, hundreds, by30, gregorianSum, epact, arabic}
 
 pub golden-range : (y : ℕ) → (1 ≤ golden y) × (golden y ≤ 19)
 unfolding golden
@@ -43,7 +43,6 @@ by30-rest (pos n) = (pos (n / 30), ap pos (omega arith))
 by30-rest (negsuc n) =
     let k = 29 + 30 * (n / 30) in
     let whole : 30 * suc (n / 30) ≡ suc k = omega arith in
-    let rest : k - (29 - n % 30) ≡ n = omega arith in
     (negsuc (n / 30), rw (whole, lt-ltb (29 - n % 30) (suc k) (omega arith)) (ap negsuc (omega arith)))
 
 by30-small : (z : ℤ) → by30 z ≤ 29

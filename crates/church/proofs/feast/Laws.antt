@@ -19,6 +19,8 @@ use Rattle.calendar.specs.Refusal.{refusalNumber, unless}
 use Rattle.calendar.specs.Span.{firstDay, inSpan, within, dayOrRefusal}
 use Rattle.calendar.specs.Weekday.{weekday, sunday, firstWeekday}
 use Rattle.calendar.specs.Year.{named, leap, newYear, firstYear, served}
+use Rattle.church.specs.Easter.{easter, hasEaster}
+use Rattle.church.specs.Feast.{Rule, before, after, on, advent, rule, adventSunday, hungDay, ruleDay, feastInYear}
 use Rattle.calendar.specs.declared.refusal.Refusal.the-variants.{Name, Year, Date, Span}
 use Rattle.calendar.specs.declared.refusal.Refusal.{Refusal}
 use Rattle.calendar.specs.declared.span.DayAnswer.the-variants.{Day, NoDay}
@@ -27,8 +29,6 @@ use Rattle.calendar.specs.declared.style.Style.the-variants.{Julian, Gregorian}
 use Rattle.calendar.specs.declared.style.Style.{Style}
 use Rattle.calendar.specs.declared.weekday.Side.the-variants.{After}
 use Rattle.calendar.specs.declared.year.NamedYear.{NamedYear}
-use Rattle.church.specs.Easter.{easter, hasEaster}
-use Rattle.church.specs.Feast.{Rule, before, after, on, advent, rule, adventSunday, ruleDay, feastInYear}
 
 -- the days from Easter with 63 added, the days and the months, as the code's tables have them
 abbrev pub fromEaster : List ℕ
@@ -52,8 +52,7 @@ hung-tested : (i : ℕ) → i < 23 → T (hung (rule (i + 1)) (getD fromEaster i
 unfolding hung
 hung-tested i h = below (λ i. hung (rule (i + 1)) (getD fromEaster i 0)) 23 tt i h
 
-hung-rule : (t : NamedYear) (r : Rule) (b : ℕ) → T (hung r b)
-    → ruleDay t r ≡ unless (hasEaster (t .style) (t .year)) (NoDay Year) (within (t .style) (easter (t .style) (t .year) + b - 63))
+hung-rule : (t : NamedYear) (r : Rule) (b : ℕ) → T (hung r b) → ruleDay t r ≡ hungDay t (easter (t .style) (t .year) + b - 63)
 unfolding hung
 hung-rule t (before k) b h =
     let same : easter (t .style) (t .year) - k ≡ easter (t .style) (t .year) + b - 63 = omega (arith, eqb→eq (b + k) 63 h) in
@@ -64,8 +63,7 @@ hung-rule t (after k) b h =
 hung-rule t (on d m) b h = absurd h
 hung-rule t advent b h = absurd h
 
-pub hung-day : (t : NamedYear) (i : ℕ) → i < 23
-    → ruleDay t (rule (i + 1)) ≡ unless (hasEaster (t .style) (t .year)) (NoDay Year) (within (t .style) (easter (t .style) (t .year) + getD fromEaster i 0 - 63))
+pub hung-day : (t : NamedYear) (i : ℕ) → i < 23 → ruleDay t (rule (i + 1)) ≡ hungDay t (easter (t .style) (t .year) + getD fromEaster i 0 - 63)
 hung-day t i h = hung-rule t (rule (i + 1)) (getD fromEaster i 0) (hung-tested i h)
 
 small-test : ℕ → Bool

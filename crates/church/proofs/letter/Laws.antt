@@ -2,19 +2,19 @@
 use mathlib.Core.Bool.{Bool, true, false, _&&_, _||_, cond, and-true, and-false, and-eq-true-iff}
 use mathlib.Core.Logic.{_↔_}
 use mathlib.Core.Path.{_≡_, refl, sym, _∙_}
-use Prim.Native.Nat.{ℕ, suc, pred, _+_, _-_, _%_, _≤_, _<_}
+use Prim.Native.Nat.{ℕ, pred, _+_, _-_, _%_, _≤_}
 use native.Mathlib.Omega.{arith}
-use lib.Dec.{leb, ltb, eqb}
+use lib.Dec.{eqb}
 use borrow.Author.Tests.{leb-true, eqb-true, le-leb, lt-ltb, le-ltb}
 use Rattle.calendar.proofs.date.Dates.{date-bounds}
 use Rattle.calendar.proofs.date.Months.{leap-day}
-use Rattle.calendar.specs.Date.{monthLength, daysOfMonths, isDate, dayNumber}
+use Rattle.calendar.specs.Date.{daysOfMonths, isDate, dayNumber}
 use Rattle.calendar.specs.Range.{between}
 use Rattle.calendar.specs.Weekday.{weekday, sunday}
 use Rattle.calendar.specs.Year.{leap, newYear}
-use Rattle.calendar.specs.declared.style.Style.{Style}
 use Rattle.church.specs.Easter.{march}
 use Rattle.church.specs.Letter.{letterAfter, letterOf, Part, first, second, inPart, SundayLetter}
+use Rattle.calendar.specs.declared.style.Style.{Style}
 
 -- the leap day lies before the second part, and makes the first letter one later
 before : Part → Bool → ℕ

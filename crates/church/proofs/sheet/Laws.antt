@@ -2,15 +2,15 @@
 use mathlib.Core.Bool.{true≢false}
 use mathlib.Core.Path.{_≡_, sym, _∙_, ap}
 use Prim.Native.Nat.{ℕ}
+use Rattle.church.proofs.letter.Laws.{one-letter}
 use Rattle.calendar.specs.Style.{styleOf, inStyle}
 use Rattle.calendar.specs.Year.{named}
+use Rattle.church.specs.Letter.{first, second}
+use Rattle.church.specs.Sheet.{IsSheet, IsSheetInYear, IsSheetOfYear}
 use Rattle.calendar.specs.declared.style.Style.{Style}
 use Rattle.calendar.specs.declared.style.StyleAnswer.the-variants.{Known, NoStyle}
 use Rattle.calendar.specs.declared.style.StyleAnswer.{StyleAnswer}
 use Rattle.calendar.specs.declared.year.NamedYear.{NamedYear}
-use Rattle.church.proofs.letter.Laws.{one-letter}
-use Rattle.church.specs.Letter.{first, second}
-use Rattle.church.specs.Sheet.{IsSheet, IsSheetInYear, IsSheetOfYear}
 use Rattle.church.specs.declared.sheet.SheetAnswer.the-variants.{Sheet, NoSheet}
 use Rattle.church.specs.declared.sheet.SheetAnswer.{SheetAnswer}
 use Rattle.church.specs.declared.sheet.YearSheet.{YearSheet}

@@ -7,18 +7,14 @@ use borrow.Author.Needs.{needs}
 use Rattle.calendar.proofs.refusal.Laws.{passed-day, refused}
 use Rattle.church.proofs.easter.Laws.{easter-small}
 use Rattle.church.proofs.feast.Laws.{fromEaster, hung-day, from-easter-small}
-use Rattle.calendar.specs.Refusal.{unless}
-use Rattle.calendar.specs.Span.{within}
 use Rattle.church.specs.Easter.{easter, hasEaster}
-use Rattle.church.specs.Feast.{rule, ruleDay}
-use Rattle.calendar.specs.declared.refusal.Refusal.the-variants.{Year}
-use Rattle.calendar.specs.declared.span.DayAnswer.the-variants.{NoDay}
+use Rattle.church.specs.Feast.{rule, hungDay, ruleDay}
 use Rattle.church.proofs.feast.hung_on_easter.Statement.{statement}
 use Rattle.church.proofs.feast.hung_on_easter.Tie as tie
 
 hung : (c : tie.Start)
     → ruleDay (c .args .named) (rule (c .args .feast))
-    ≡ unless (hasEaster (c .args .named .style) (c .args .named .year)) (NoDay Year) (within (c .args .named .style) (easter (c .args .named .style) (c .args .named .year) + getD fromEaster (c .args .feast - 1) 0 - 63))
+    ≡ hungDay (c .args .named) (easter (c .args .named .style) (c .args .named .year) + getD fromEaster (c .args .feast - 1) 0 - 63)
 hung c =
     let i = c .args .feast - 1 in
     let f : i + 1 ≡ c .args .feast = omega (arith, c .pre) in
