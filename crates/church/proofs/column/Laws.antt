@@ -50,7 +50,7 @@ agreed s e a d h low high =
     let tested = below (λ i. same (agrees s e a (8 + i)) (stands s e a (8 + i))) 29 (agrees-tested s a e (omega arith)) (d - 8) (omega arith) in
     rw day at (is-same (agrees s e a (8 + (d - 8))) (stands s e a (8 + (d - 8))) tested)
 
--- an epact stands at days of the column only
+-- a day at which one of the column's rules puts an epact
 either : {A : Type 0} (a b : Bool) → (a ≡ true → A) → (b ≡ true → A) → a || b ≡ true → A
 either true b f g h = f refl
 either false b f g h = g h
@@ -60,25 +60,26 @@ at a d k h =
     let both = and-eq-true-iff a (eqb d k) .0 h in
     (both .0, eqb-true d k (both .1))
 
-in-row : (e d first last k : ℕ) → 8 + last ≤ k → k ≤ 36 + first → last ≤ k → between first e last && eqb d (k - e) ≡ true → (8 ≤ d) × (d ≤ 36)
-in-row e d first last k low high small h =
+in-row : (e d first last k : ℕ) → 8 + last ≤ k → k ≤ 36 + first → between first e last && eqb d (k - e) ≡ true → (8 ≤ d) × (d ≤ 36)
+in-row e d first last k low high h =
     let b = at (between first e last) d (k - e) h in
     let r = range first e last (b .0) in
     omega (arith, b .1)
 
-pub in-column : (s : Style) (e : ℕ) (a : Bool) (d : ℕ) → stands s e a d ≡ true → (8 ≤ d) × (d ≤ 36)
+-- an epact stands at days of the column only
+in-column : (s : Style) (e : ℕ) (a : Bool) (d : ℕ) → stands s e a d ≡ true → (8 ≤ d) × (d ≤ 36)
 unfolding stands
 in-column Julian e a d =
     either _ _
-    (in-row e d 1 26 34 (omega arith) (omega arith) (omega arith))
-    (in-row e d 28 29 64 (omega arith) (omega arith) (omega arith))
+    (in-row e d 1 26 34 (omega arith) (omega arith))
+    (in-row e d 28 29 64 (omega arith) (omega arith))
 in-column Gregorian e a d =
     either _ _
     (either _ _
     (either _ _
     (either _ _
-    (in-row e d 0 23 31 (omega arith) (omega arith) (omega arith))
-    (in-row e d 26 29 61 (omega arith) (omega arith) (omega arith)))
+    (in-row e d 0 23 31 (omega arith) (omega arith))
+    (in-row e d 26 29 61 (omega arith) (omega arith)))
     (λ h. omega (arith, at (eqb e 25 && not a) d 36 h .1)))
     (λ h. omega (arith, at (eqb e 24) d 36 h .1)))
     (λ h. omega (arith, at (eqb e 25 && a) d 35 h .1))
