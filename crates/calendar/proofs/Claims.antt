@@ -8,6 +8,7 @@ use lib.IntN.{ℤ, pos, natAbs}
 use borrow.Author.Tests.{le-leb, lt-leb}
 use Rattle.calendar.proofs.date.Laws as laws
 use Rattle.calendar.proofs.distance.Laws.{both-days, distance-size, zero-same-day, same-day-zero}
+use Rattle.calendar.proofs.style.Laws.{by-number}
 use Rattle.calendar.proofs.weekday.Laws.{is-later, is-earlier}
 use Rattle.calendar.specs.Date.{daysOfMonths, isDate, dayNumber, dayInYear, dayOfDate, IsDateInStyle, IsDateOfDay, nextDate}
 use Rattle.calendar.specs.Distance.{distanceOfDays}
@@ -26,12 +27,6 @@ use Rattle.calendar.specs.declared.style.Style.{Style}
 use Rattle.calendar.specs.declared.style.StyleAnswer.the-variants.{Known, NoStyle}
 use Rattle.calendar.specs.declared.style.StyleAnswer.{StyleAnswer}
 use Rattle.calendar.specs.declared.weekday.Side.the-variants.{After, Before}
-
--- a call by the number of a style is the call in that style
-by-number : (s : Style) → styleOf (styleNumber s) ≡ Known s
-unfolding styleOf
-by-number Julian = refl
-by-number Gregorian = refl
 
 one-in : (t : StyleAnswer) (n : ℕ) (r r′ : DateAnswer) → inStyle (λ x. r ≡ NoDate x) (λ s. IsDateInStyle s n r) t
     → inStyle (λ x. r′ ≡ NoDate x) (λ s. IsDateInStyle s n r′) t → r ≡ r′

@@ -26,7 +26,7 @@ below f (suc n) t k h =
       | no g ↦ subst (λ (j : ℕ). T (f j)) (omega arith) (T-both (f n) (each f n) t .0)
     ]
 
--- the same for a test of leap and of common years
+-- the same for a test that a truth value takes part in
 pub of-both : (f : Bool → ℕ → Bool) (n : ℕ) → T (each (λ k. f true k && f false k) n) → (b : Bool) (k : ℕ) → k < n → T (f b k)
 of-both f n t true k h = T-both (f true k) (f false k) (below (λ k. f true k && f false k) n t k h) .0
 of-both f n t false k h = T-both (f true k) (f false k) (below (λ k. f true k && f false k) n t k h) .1

@@ -6,6 +6,10 @@ use native.Mathlib.Decide.{decLt}
 use native.Mathlib.Omega.{arith}
 use Rattle.calendar.specs.Search.{firstOf}
 
+either-way : (b : Bool) (n : ℕ) → n ≡ 0 → cond b 0 n ≡ 0
+either-way true n e = refl
+either-way false n e = e
+
 module _ (test : ℕ → Bool) where
   -- a day that passes, and none on the way to it
   pub found-later : (k n d : ℕ) → n ≤ d → d < n + k → ((i : ℕ) → n ≤ i → i < d → test i ≡ false) → test d ≡ true → firstOf suc test k n ≡ d
@@ -32,13 +36,9 @@ module _ (test : ℕ → Bool) where
   none-later zero n none = refl
   none-later (suc k) n none = rw (none n (omega arith)) (none-later k (suc n) (λ i h. none i (omega arith)))
 
-  same : (b : Bool) (n : ℕ) → n ≡ 0 → cond b 0 n ≡ 0
-  same true n e = refl
-  same false n e = e
-
   -- the day 0 is found or not
   pub none-earlier : (k n : ℕ) → ((i : ℕ) → 0 < i → i ≤ n → test i ≡ false) → firstOf pred test k n ≡ 0
   unfolding firstOf
   none-earlier zero n none = refl
-  none-earlier (suc k) zero none = same (test 0) _ (none-earlier k 0 none)
+  none-earlier (suc k) zero none = either-way (test 0) _ (none-earlier k 0 none)
   none-earlier (suc k) (suc n) none = rw (none (suc n) (omega arith) (omega arith)) (none-earlier k n (λ i l h. none i l (omega arith)))

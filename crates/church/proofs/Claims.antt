@@ -6,23 +6,26 @@ use Prim.Native.Nat.{ℕ, _+_, _≤_, _<_}
 use native.Mathlib.Omega.{arith}
 use lib.IntN.{ℤ, pos, _+ℤ_, _*ℤ_}
 use lib.ListN.{length}
+use Rattle.calendar.proofs.style.Laws.{by-number}
 use Rattle.church.proofs.column.Laws.{walked}
 use Rattle.church.proofs.easter.Laws as easter-laws
 use Rattle.church.proofs.epact.Laws as epact-laws
-use Rattle.church.proofs.feast.Laws.{week-long, advent-after, advent-week, feast-never-5}
+use Rattle.church.proofs.feast.Laws as feast-laws
 use Rattle.church.proofs.letter.Laws as letter-laws
 use Rattle.church.proofs.sheet.Laws as sheet-laws
 use Rattle.calendar.specs.Date.{isDate, dayNumber}
+use Rattle.calendar.specs.Range.{between}
+use Rattle.calendar.specs.Span.{inSpan, dayOrRefusal}
+use Rattle.calendar.specs.Style.{styleNumber}
 use Rattle.calendar.specs.Weekday.{weekday, sunday}
-use Rattle.calendar.specs.Year.{leap}
+use Rattle.calendar.specs.Year.{named, leap}
 use Rattle.church.specs.Column.{stands, luna}
-use Rattle.church.specs.Easter.{limit, march, easter, key}
+use Rattle.church.specs.Easter.{limit, march, easter, key, hasEaster}
 use Rattle.church.specs.Epact.{golden, hundreds, gregorianSum, epact, arabic}
-use Rattle.church.specs.Feast.{feasts, adventSunday, feastInYear}
+use Rattle.church.specs.Feast.{feasts, adventSunday, feastOfYear}
 use Rattle.church.specs.Letter.{letterOf, Part, first, second, inPart, SundayLetter}
 use Rattle.church.specs.Sheet.{IsSheetInYear, IsSheetOfYear}
-use Rattle.calendar.specs.declared.refusal.Refusal.the-variants.{Date}
-use Rattle.calendar.specs.declared.span.DayAnswer.the-variants.{NoDay}
+use Rattle.calendar.specs.declared.span.DayAnswer.the-variants.{Day}
 use Rattle.calendar.specs.declared.style.Style.the-variants.{Gregorian}
 use Rattle.calendar.specs.declared.style.Style.{Style}
 use Rattle.calendar.specs.declared.year.NamedYear.{NamedYear}
@@ -71,6 +74,10 @@ easter-sunday s y =
     let f = easter-laws.easter-facts s y in
     (f .falls, f .later, f .week)
 
+-- In a year that has a sheet Easter lies in the span.
+pub easter-in-span : (s : Style) (y : ℕ) → hasEaster s y ≡ true → inSpan s (easter s y) ≡ true
+easter-in-span s y h = easter-laws.easter-in-span s y h
+
 -- Each part of a year has one Sunday letter.
 pub has-letter : (s : Style) (y : ℕ) (p : Part) → (l : ℕ) × SundayLetter s y p l
 has-letter s y p = (letter-laws.closed p (leap s y) (march s y 21), letter-laws.sundays s y p)
@@ -91,20 +98,25 @@ pub common-letters : (s : Style) (y l l′ : ℕ) → leap s y ≡ false → Sun
 common-letters s y l l′ common h h′ =
     letter-laws.one-letter s y first l h ∙ rw common refl ∙ sym (letter-laws.one-letter s y second l′ h′)
 
--- There are 48 feasts, and none is refused by 5.
+-- There are 48 feasts.
 pub forty-eight : length feasts ≡ 48
 forty-eight = refl
 
-pub never-5 : (t : NamedYear) (f : ℕ) → feastInYear t f ≡ NoDay Date → ⊥
-never-5 t f h = feast-never-5 t f h
+-- In a year that has an Easter every feast has a day.
+pub feast-answered : (s : Style) (y f : ℕ) → hasEaster s y ≡ true → between 1 f 48 ≡ true → (n : ℕ) × (feastOfYear (styleNumber s) f y ≡ Day n)
+feast-answered s y f h e = rw by-number (feast-laws.feast-answered (named s y) f h e)
+
+-- The number of a feast's answer is 1, 4 or 6, or a day not below 1721424.
+pub feast-numbers : (k f y : ℕ) → feast-laws.FeastNumber (dayOrRefusal (feastOfYear k f y))
+feast-numbers k f y = feast-laws.feast-numbers k f y
 
 -- Advent is a Sunday from 27 November to 3 December, and the only one.
 pub advent-sunday : (s : Style) (y : ℕ)
     → (weekday (adventSunday s y) ≡ sunday) × (dayNumber s y 11 27 ≤ adventSunday s y) × (adventSunday s y ≤ dayNumber s y 12 3)
-advent-sunday s y = rw (advent-after s y) (advent-week s y)
+advent-sunday s y = rw (feast-laws.advent-after s y) (feast-laws.advent-week s y)
 
 pub one-advent : (s : Style) (y n : ℕ) → dayNumber s y 11 27 ≤ n → n ≤ dayNumber s y 12 3 → weekday n ≡ sunday → n ≡ adventSunday s y
 one-advent s y n from to falls =
     let a = advent-sunday s y in
-    let w = week-long s y in
+    let w = feast-laws.week-long s y in
     omega arith

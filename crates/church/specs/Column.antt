@@ -22,6 +22,10 @@ stands Gregorian e a d =
     || eqb e 24 && eqb d 36
     || eqb e 25 && a && eqb d 35
 
--- "Luna I is found when one walks from 8 March to 5 April until the day's epact agrees."
+-- "one walks from 8 March to 5 April until the day's epact agrees"
+abbrev pub walk : Style → ℕ → Bool → ℕ
+walk s e a = firstOf suc (stands s e a) 29 8
+
+-- "Luna I is found" at the year's epact
 unfoldable pub luna : Style → ℕ → ℕ
-luna s y = firstOf suc (stands s (epact s y) (arabic s y)) 29 8
+luna s y = walk s (epact s y) (arabic s y)

@@ -23,6 +23,7 @@ fn stands_at(style: Style, epact: u64, arabic: bool, day: u64) -> bool
             if day < 32 {
                 return day + epact == 31;
             }
+            // XXIV and XXV stand at 36.
             if epact == 24 {
                 return day + epact == 60;
             }
@@ -43,7 +44,7 @@ pub(crate) fn luna_one(named: NamedYear) -> u64
 {
     let style = named.style;
     let epact = epact_number(named);
-    let arabic = is_arabic(named);
+    let arabic = is_arabic(named, epact);
     let mut day = 8;
     let found = loop {
         if stands_at(style, epact, arabic, day) {

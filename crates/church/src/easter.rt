@@ -4,14 +4,17 @@ use calendar::date::day_in_year;
 use calendar::refusal::Refusal;
 use calendar::span::DayAnswer;
 use calendar::style::Style;
+use calendar::weekday::SUNDAY;
 use calendar::weekday::Side;
 use calendar::weekday::first_weekday;
 use calendar::year::NamedYear;
 ghost use mathlib.Core.Path.{_≡_};
-ghost use Prim.Native.Nat.{_≤_};
+ghost use Prim.Native.Nat.{_+_, _-_, _≤_};
 ghost use Rattle.calendar.specs.Refusal.{unless};
+ghost use Rattle.calendar.specs.Weekday.{sunday, firstWeekday};
 ghost use Rattle.calendar.specs.declared.refusal.Refusal.the-variants.{Year};
 ghost use Rattle.calendar.specs.declared.span.DayAnswer.the-variants.{Day, NoDay};
+ghost use Rattle.calendar.specs.declared.weekday.Side.the-variants.{After};
 ghost use Rattle.church.specs.Easter.{limit, march, easter, reformYear, hasEaster};
 
 // The limit, a day of March run on past 31.
@@ -32,7 +35,7 @@ fn is_reform_year(named: NamedYear) -> bool
     }
 }
 
-// The day of 21 March, where the year's Easter is answered.
+// The day of 21 March, where the year's Easter is answered, and else 4.
 pub(crate) fn equinox(named: NamedYear) -> DayAnswer
     ensures { λ r. ⌜ r ≡ unless (hasEaster (named .style) (named .year)) (NoDay Year) (Day (march (named .style) (named .year) 21)) ⌝ }
 {
@@ -42,16 +45,16 @@ pub(crate) fn equinox(named: NamedYear) -> DayAnswer
     day_in_year(named, 3, 21)
 }
 
-// Easter, told by the day of 21 March.
-pub(crate) fn easter_from(named: NamedYear, equinox: u32) -> u32
-    requires { ⌜ (equinox ≡ march (named .style) (named .year) 21) × (equinox ≤ 5373557) ⌝ }
-    ensures { λ r. ⌜ r ≡ easter (named .style) (named .year) ⌝ }
+// The first Sunday after a limit of the year whose 21 March is given.
+pub(crate) fn easter_after(equinox: u32, limit: u64) -> u32
+    requires { ⌜ (1721424 ≤ equinox) × (equinox ≤ 5373557) × (21 ≤ limit) × (limit ≤ 49) ⌝ }
+    ensures { λ r. ⌜ r ≡ firstWeekday After sunday (equinox + limit - 21) ⌝ }
 {
-    let limit_day = equinox + limit_of_year(named) as u32 - 21;
-    first_weekday(Side::After, 7, limit_day) as u32
+    let limit_day = equinox + limit as u32 - 21;
+    first_weekday(Side::After, SUNDAY, limit_day) as u32
 }
 
-// Easter, where the year's is answered.
+// Easter, where the year's is answered, and else 4.
 pub(crate) fn easter_of_year(named: NamedYear) -> DayAnswer
     ensures { λ r. ⌜ r ≡ unless (hasEaster (named .style) (named .year)) (NoDay Year) (Day (easter (named .style) (named .year))) ⌝ }
 {
@@ -59,5 +62,5 @@ pub(crate) fn easter_of_year(named: NamedYear) -> DayAnswer
     let DayAnswer::Day(equinox) = answer else {
         return answer;
     };
-    DayAnswer::Day(easter_from(named, equinox))
+    DayAnswer::Day(easter_after(equinox, limit_of_year(named)))
 }

@@ -12,8 +12,8 @@ pub(crate) fn golden_number(named: NamedYear) -> u64
     named.year % 19 + 1
 }
 
-// The Gregorian epact, of up to the hundreds of the largest 64-bit year; 30 times the hundreds are
-// added, so that no sum is negative.
+// The Gregorian epact of a golden number and a year's whole hundreds, as many as a 64-bit year can
+// have; 30 times the hundreds are added, so that no sum is negative.
 fn gregorian_epact(golden_number: u64, hundreds: u64) -> u64
     requires { ⌜ (1 ≤ «golden_number») × («golden_number» ≤ 19) × (hundreds ≤ 184467440737095516) ⌝ }
     ensures { λ r. ⌜ r ≡ by30 (gregorianSum «golden_number» hundreds) ⌝ }
@@ -35,15 +35,16 @@ pub(crate) fn epact_number(named: NamedYear) -> u64
     }
 }
 
-// Whether the epact is the Arabic 25.
-pub(crate) fn is_arabic(named: NamedYear) -> bool
+// Whether the year's epact is the Arabic 25.
+pub(crate) fn is_arabic(named: NamedYear, number: u64) -> bool
+    requires { ⌜ number ≡ epact (named .style) (named .year) ⌝ }
     ensures { λ r. ⌜ r ≡ arabic (named .style) (named .year) ⌝ }
 {
     let style = named.style;
     match style {
         Style::Julian => false,
         Style::Gregorian => {
-            if epact_number(named) != 25 {
+            if number != 25 {
                 return false;
             }
             golden_number(named) > 11

@@ -7,6 +7,7 @@ use calendar::span::DayAnswer;
 use calendar::span::day_within;
 use calendar::style::StyleAnswer;
 use calendar::style::style_of;
+use calendar::weekday::SUNDAY;
 use calendar::weekday::Side;
 use calendar::weekday::first_weekday;
 use calendar::year::NamedYear;
@@ -111,7 +112,7 @@ fn hung_on_easter(named: NamedYear, feast: u64) -> DayAnswer
 }
 
 // The day of a feast that has a date.
-fn fixed(named: NamedYear, feast: u64) -> DayAnswer
+fn fixed_in_year(named: NamedYear, feast: u64) -> DayAnswer
     requires { ⌜ (24 ≤ feast) × (feast ≤ 47) ⌝ }
     ensures { λ r. ⌜ r ≡ ruleDay named (rule feast) ⌝ }
 {
@@ -119,7 +120,7 @@ fn fixed(named: NamedYear, feast: u64) -> DayAnswer
     day_in_year(named, FIXED_MONTHS[i], FIXED_DAYS[i])
 }
 
-// The Sunday after 26 November.
+// Advent, the first Sunday after 26 November.
 fn advent_of_year(named: NamedYear) -> DayAnswer
     ensures { λ r. ⌜ r ≡ ruleDay named advent ⌝ }
 {
@@ -128,7 +129,7 @@ fn advent_of_year(named: NamedYear) -> DayAnswer
         return answer;
     };
     let style = named.style;
-    day_within(style, first_weekday(Side::After, 7, day))
+    day_within(style, first_weekday(Side::After, SUNDAY, day))
 }
 
 // The day of a feast of a named year.
@@ -142,7 +143,7 @@ pub fn feast_in_year(named: NamedYear, feast: u64) -> DayAnswer
         return hung_on_easter(named, feast);
     }
     if feast < 48 {
-        return fixed(named, feast);
+        return fixed_in_year(named, feast);
     }
     advent_of_year(named)
 }

@@ -1,5 +1,5 @@
 // Year sheets.
-use crate::easter::easter_from;
+use crate::easter::easter_after;
 use crate::easter::equinox;
 use crate::easter::limit_of_year;
 use crate::epact::epact_number;
@@ -46,17 +46,19 @@ pub fn sheet_in_year(named: NamedYear) -> SheetAnswer
         DayAnswer::Day(day) => day,
         DayAnswer::NoDay(refusal) => return SheetAnswer::NoSheet(refusal),
     };
-    let easter = easter_from(named, equinox);
+    let limit = limit_of_year(named);
+    let easter = easter_after(equinox, limit);
     let key = (easter - equinox) as u64;
+    let epact = epact_number(named);
     let first = first_letter(named, equinox);
     let second = second_letter(named, equinox);
     SheetAnswer::Sheet(YearSheet {
         leap: is_leap(named),
         golden: golden_number(named),
-        epact: epact_number(named),
-        arabic: is_arabic(named),
+        epact,
+        arabic: is_arabic(named, epact),
         letters: SundayLetters { first, second },
-        limit: limit_of_year(named),
+        limit,
         key,
         easter,
     })

@@ -72,7 +72,7 @@ day-of-date-small k n y m d e =
     let h = known-style k n y m d e in
     span-small (h .0) n (dated (h .0) n y m d (h .2) .0)
 
--- a date lies in the span in every year from one on in which it does
+-- a date lies in the span in every year up to 9999 from the first year on in which its day does
 pub date-in-span : (s : Style) (first y m d : ℕ) → 1 ≤ first → first ≤ y → y ≤ 9999 → isDate s y m d ≡ true
     → firstDay s ≤ newYear s first + daysOfMonths false (pred m) + pred d → inSpan s (dayNumber s y m d) ≡ true
 unfolding inSpan dayNumber

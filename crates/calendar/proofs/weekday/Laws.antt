@@ -16,12 +16,12 @@ misses : (w n : ℕ) → (weekday n ≡ w → ⊥) → fallsOn w n ≡ false
 misses w n e = ne-eqb (weekday n) w e
 
 -- a day that falls on the weekday within a week is the first
-pub later : (w n d : ℕ) → n < d → d ≤ n + 7 → weekday d ≡ w → firstWeekday After w n ≡ d
+later : (w n d : ℕ) → n < d → d ≤ n + 7 → weekday d ≡ w → firstWeekday After w n ≡ d
 unfolding firstWeekday
 later w n d low high e =
     found-later (fallsOn w) 7 (suc n) d (omega arith) (omega arith) (λ i l h. misses w i (λ q. omega arith)) (falls w d e)
 
-pub earlier : (w n d : ℕ) → d < n → n ≤ d + 7 → weekday d ≡ w → firstWeekday Before w n ≡ d
+earlier : (w n d : ℕ) → d < n → n ≤ d + 7 → weekday d ≡ w → firstWeekday Before w n ≡ d
 unfolding firstWeekday
 earlier w n d low high e =
     found-earlier (fallsOn w) 7 (pred n) d (omega arith) (omega arith) (λ i l h. misses w i (λ q. omega arith)) (falls w d e)

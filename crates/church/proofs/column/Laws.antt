@@ -1,5 +1,5 @@
 -- The column: the code's test of a day, and the one day at which a year's epact stands.
-use mathlib.Core.Bool.{Bool, true, false, _&&_, _||_, not, cond, or-true, and-eq-true-iff}
+use mathlib.Core.Bool.{Bool, true, false, _&&_, _||_, not, cond, Bool·beq, or-true, and-eq-true-iff}
 use mathlib.Core.Path.{_≡_, refl, sym, subst}
 use Prim.Native.Nat.{ℕ, suc, _+_, _-_, _*_, _%_, _≤_, _<_}
 use native.Mathlib.Omega.{arith}
@@ -10,17 +10,12 @@ use Rattle.calendar.proofs.range.Laws.{range}
 use Rattle.church.proofs.epact.Laws.{epact-small}
 use Rattle.calendar.specs.Range.{between}
 use Rattle.calendar.specs.Search.{firstOf}
-use Rattle.church.specs.Column.{stands, luna}
+use Rattle.church.specs.Column.{stands, walk, luna}
 use Rattle.church.specs.Epact.{golden, epact, arabic}
 use Rattle.calendar.specs.declared.style.Style.the-variants.{Julian, Gregorian}
 use Rattle.calendar.specs.declared.style.Style.{Style}
 
-same : Bool → Bool → Bool
-same true b = b
-same false b = not b
-
-is-same : (a b : Bool) → T (same a b) → a ≡ b
-unfolding same
+is-same : (a b : Bool) → T (Bool·beq a b) → a ≡ b
 is-same true true t = refl
 is-same true false t = absurd t
 is-same false true t = absurd t
@@ -36,10 +31,10 @@ agrees Gregorian e a d =
     (eqb (d + e) 61)))
 
 agrees-test : Style → Bool → ℕ → Bool
-agrees-test s a e = each (λ i. same (agrees s e a (8 + i)) (stands s e a (8 + i))) 29
+agrees-test s a e = each (λ i. Bool·beq (agrees s e a (8 + i)) (stands s e a (8 + i))) 29
 
 agrees-tested : (s : Style) (a : Bool) (e : ℕ) → e < 30 → T (agrees-test s a e)
-unfolding agrees-test same stands between
+unfolding agrees-test stands between
 agrees-tested Julian a e h = of-both (agrees-test Julian) 30 tt a e h
 agrees-tested Gregorian a e h = of-both (agrees-test Gregorian) 30 tt a e h
 
@@ -47,7 +42,7 @@ pub agreed : (s : Style) (e : ℕ) (a : Bool) (d : ℕ) → e ≤ 29 → 8 ≤ d
 unfolding agrees-test
 agreed s e a d h low high =
     let day : 8 + (d - 8) ≡ d = omega arith in
-    let tested = below (λ i. same (agrees s e a (8 + i)) (stands s e a (8 + i))) 29 (agrees-tested s a e (omega arith)) (d - 8) (omega arith) in
+    let tested = below (λ i. Bool·beq (agrees s e a (8 + i)) (stands s e a (8 + i))) 29 (agrees-tested s a e (omega arith)) (d - 8) (omega arith) in
     rw day at (is-same (agrees s e a (8 + (d - 8))) (stands s e a (8 + (d - 8))) tested)
 
 -- a day at which one of the column's rules puts an epact
@@ -55,14 +50,14 @@ either : {A : Type 0} (a b : Bool) → (a ≡ true → A) → (b ≡ true → A)
 either true b f g h = f refl
 either false b f g h = g h
 
-at : (a : Bool) (d k : ℕ) → a && eqb d k ≡ true → (a ≡ true) × (d ≡ k)
-at a d k h =
+placed : (a : Bool) (d k : ℕ) → a && eqb d k ≡ true → (a ≡ true) × (d ≡ k)
+placed a d k h =
     let both = and-eq-true-iff a (eqb d k) .0 h in
     (both .0, eqb-true d k (both .1))
 
 in-row : (e d first last k : ℕ) → 8 + last ≤ k → k ≤ 36 + first → between first e last && eqb d (k - e) ≡ true → (8 ≤ d) × (d ≤ 36)
 in-row e d first last k low high h =
-    let b = at (between first e last) d (k - e) h in
+    let b = placed (between first e last) d (k - e) h in
     let r = range first e last (b .0) in
     omega (arith, b .1)
 
@@ -80,9 +75,9 @@ in-column Gregorian e a d =
     (either _ _
     (in-row e d 0 23 31 (omega arith) (omega arith))
     (in-row e d 26 29 61 (omega arith) (omega arith)))
-    (λ h. omega (arith, at (eqb e 25 && not a) d 36 h .1)))
-    (λ h. omega (arith, at (eqb e 24) d 36 h .1)))
-    (λ h. omega (arith, at (eqb e 25 && a) d 35 h .1))
+    (λ h. omega (arith, placed (eqb e 25 && not a) d 36 h .1)))
+    (λ h. omega (arith, placed (eqb e 24) d 36 h .1)))
+    (λ h. omega (arith, placed (eqb e 25 && a) d 35 h .1))
 
 -- the epacts, below 30, that a year can have
 canHave : Style → ℕ → Bool → Bool
@@ -105,9 +100,6 @@ follows : (a b : Bool) → T (implies a b) → T a → T b
 unfolding implies
 follows true b t h = t
 follows false b t h = absurd h
-
-abbrev pub walk : Style → ℕ → Bool → ℕ
-walk s e a = firstOf suc (stands s e a) 29 8
 
 -- the walk ends at a day of the column at which the epact stands, and it stands at no other
 walk-test : Style → Bool → ℕ → Bool

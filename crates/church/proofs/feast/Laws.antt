@@ -1,32 +1,37 @@
 -- The code's tables of feasts, and advent.
-use mathlib.Core.Bool.{Bool, true, false, _&&_}
+use mathlib.Core.Bool.{Bool, true, false, _&&_, cond}
 use mathlib.Core.List.{List, [], _∷_}
+use mathlib.Core.Logic.{_⊎_, inl, inr}
 use mathlib.Core.Path.{_≡_, refl, sym, ap}
 use Prim.Native.Nat.{ℕ, suc, pred, _+_, _-_, _≤_, _<_}
 use native.Mathlib.Omega.{arith}
 use lib.Dec.{T, leb, eqb, leb→le, eqb→eq}
 use lib.ListN.{getD}
 use Rattle.calendar.proofs.Each.{below, of-both, T-both, is-true}
-use Rattle.calendar.proofs.date.Laws.{date-in-span, answered}
+use Rattle.calendar.proofs.date.Dates.{date-bounds, Dated, year-of}
+use Rattle.calendar.proofs.date.Laws.{has-day, date-in-span, answered}
 use Rattle.calendar.proofs.range.Laws.{range}
 use Rattle.calendar.proofs.refusal.Laws.{no-day}
-use Rattle.calendar.proofs.span.Laws.{served-range}
+use Rattle.calendar.proofs.span.Laws.{span-small, served-small, served-range}
 use Rattle.calendar.proofs.weekday.Laws.{is-later}
 use Rattle.calendar.proofs.year.Laws.{new-year-closed}
 use Rattle.calendar.specs.Date.{monthLength, daysOfMonths, isDate, dayNumber, dayInYear}
 use Rattle.calendar.specs.Range.{between}
 use Rattle.calendar.specs.Refusal.{refusalNumber, unless}
 use Rattle.calendar.specs.Span.{firstDay, inSpan, within, dayOrRefusal}
+use Rattle.calendar.specs.Style.{styleOf, inStyle}
 use Rattle.calendar.specs.Weekday.{weekday, sunday, firstWeekday}
 use Rattle.calendar.specs.Year.{named, leap, newYear, firstYear, served}
+use Rattle.church.proofs.easter.Laws.{easter-served, year-in-span, year-long, before-easter, after-easter}
 use Rattle.church.specs.Easter.{easter, hasEaster}
-use Rattle.church.specs.Feast.{Rule, before, after, on, advent, rule, adventSunday, hungDay, ruleDay, feastInYear}
+use Rattle.church.specs.Feast.{Rule, before, after, on, advent, rule, adventSunday, hungDay, ruleDay, feastInYear, feastOfYear}
 use Rattle.calendar.specs.declared.refusal.Refusal.the-variants.{Name, Year, Date, Span}
 use Rattle.calendar.specs.declared.refusal.Refusal.{Refusal}
 use Rattle.calendar.specs.declared.span.DayAnswer.the-variants.{Day, NoDay}
 use Rattle.calendar.specs.declared.span.DayAnswer.{DayAnswer}
 use Rattle.calendar.specs.declared.style.Style.the-variants.{Julian, Gregorian}
 use Rattle.calendar.specs.declared.style.Style.{Style}
+use Rattle.calendar.specs.declared.style.StyleAnswer.the-variants.{Known, NoStyle}
 use Rattle.calendar.specs.declared.weekday.Side.the-variants.{After}
 use Rattle.calendar.specs.declared.year.NamedYear.{NamedYear}
 
@@ -139,10 +144,10 @@ advent-week s y =
     let w = week-long s y in
     (f .2, omega arith, omega arith)
 
--- no rule is a date that a year lacks
+-- what the table's rules keep to: days near Easter, and dates that every year has
 good : Bool → Rule → Bool
-good b (before k) = true
-good b (after k) = true
+good b (before k) = leb k 63
+good b (after k) = leb k 60
 good b (on d m) = between 1 m 12 && between 1 d (monthLength b m)
 good b advent = true
 
@@ -150,33 +155,87 @@ rules-good : (b : Bool) (i : ℕ) → i < 48 → T (good b (rule (i + 1)))
 unfolding good between
 rules-good b i h = of-both (λ b i. good b (rule (i + 1))) 48 tt b i h
 
--- an answer behind a test that refuses by another number is not refused by 5
-no-5 : (t : Bool) (x : Refusal) (a : DayAnswer) → (refusalNumber x ≡ 5 → ⊥) → (a ≡ NoDay Date → ⊥) → unless t (NoDay x) a ≡ NoDay Date → ⊥
-no-5 true x a f g e = g e
-no-5 false x a f g e = f (ap dayOrRefusal e)
-
-year-no-5 : (t : Bool) (s : Style) (n : ℕ) → unless t (NoDay Year) (within s n) ≡ NoDay Date → ⊥
-unfolding within
-year-no-5 t s n =
-    no-5 t Year (unless (inSpan s n) (NoDay Span) (Day n)) (λ e. omega (arith, e))
-    (no-5 (inSpan s n) Span (Day n) (λ e. omega (arith, e)) (λ e. no-day Date n (sym e)))
-
-rule-no-5 : (t : NamedYear) (r : Rule) → T (good (leap (t .style) (t .year)) r) → ruleDay t r ≡ NoDay Date → ⊥
-unfolding good dayInYear isDate
-rule-no-5 t (before k) h = year-no-5 (hasEaster (t .style) (t .year)) (t .style) (easter (t .style) (t .year) - k)
-rule-no-5 t (after k) h = year-no-5 (hasEaster (t .style) (t .year)) (t .style) (easter (t .style) (t .year) + k)
-rule-no-5 t (on d m) h =
-    let is-date = is-true (between 1 m 12 && between 1 d (monthLength (leap (t .style) (t .year)) m)) h in
-    rw is-date (year-no-5 (served (t .style) (t .year)) (t .style) (dayNumber (t .style) (t .year) m d))
-rule-no-5 t advent h = year-no-5 (served (t .style) (t .year)) (t .style) (adventSunday (t .style) (t .year))
-
-feast-case : (t : NamedYear) (f : ℕ) (b : Bool) → between 1 f 48 ≡ b → unless b (NoDay Name) (ruleDay t (rule f)) ≡ NoDay Date → ⊥
-feast-case t f false e h = let z : _≡_ {A = ℕ} 1 5 = ap dayOrRefusal h in omega arith
-feast-case t f true e h =
+rule-good : (b : Bool) (f : ℕ) → between 1 f 48 ≡ true → T (good b (rule f))
+rule-good b f e =
     let r = range 1 f 48 e in
     let number : f - 1 + 1 ≡ f = omega arith in
-    rule-no-5 t (rule f) (rw number at (rules-good (leap (t .style) (t .year)) (f - 1) (omega arith))) h
+    rw number at (rules-good b (f - 1) (omega arith))
 
-pub feast-never-5 : (t : NamedYear) (f : ℕ) → feastInYear t f ≡ NoDay Date → ⊥
+date-is : (s : Style) (y m d : ℕ) → T (between 1 m 12 && between 1 d (monthLength (leap s y) m)) → isDate s y m d ≡ true
+unfolding isDate
+date-is s y m d g = is-true (between 1 m 12 && between 1 d (monthLength (leap s y) m)) g
+
+before-december : (b : Bool) → daysOfMonths b 11 ≤ 335
+unfolding daysOfMonths
+before-december true = omega arith
+before-december false = omega arith
+
+-- advent lies in its year
+advent-in-year : (s : Style) (y : ℕ) → hasEaster s y ≡ true → inSpan s (adventSunday s y) ≡ true
+unfolding dayNumber
+advent-in-year s y h =
+    let w = rw (← advent-after s y) at (advent-week s y) in
+    let d = before-december (leap s y) in
+    year-in-span s y (adventSunday s y) h (omega arith) (omega (arith, year-long s y h))
+
+-- in a year that has an Easter every rule has a day
+rule-answered : (t : NamedYear) (r : Rule) → hasEaster (t .style) (t .year) ≡ true → T (good (leap (t .style) (t .year)) r)
+    → (n : ℕ) × (ruleDay t r ≡ Day n)
+unfolding good within
+rule-answered t (before k) h g = (easter (t .style) (t .year) - k, rw (h, before-easter (t .style) (t .year) k h (leb→le k 63 g)))
+rule-answered t (after k) h g = (easter (t .style) (t .year) + k, rw (h, after-easter (t .style) (t .year) k h (leb→le k 60 g)))
+rule-answered t (on d m) h g =
+    let s = t .style in
+    let y = t .year in
+    let n = dayNumber s y m d in
+    let is-date : isDate s y m d ≡ true = date-is s y m d g in
+    let dated : Dated s n y m d =
+    record { year = served-small s y (easter-served s y h) .0; date = date-bounds s y m d is-date; number = refl } in
+    let year = year-of s n y m d dated in
+    (n, has-day s n y m d (year-in-span s y n h (year .from) (year .to)) dated)
+rule-answered t advent h g =
+    (adventSunday (t .style) (t .year), rw (easter-served (t .style) (t .year) h, advent-in-year (t .style) (t .year) h))
+
+pub feast-answered : (t : NamedYear) (f : ℕ) → hasEaster (t .style) (t .year) ≡ true → between 1 f 48 ≡ true → (n : ℕ) × (feastInYear t f ≡ Day n)
 unfolding feastInYear
-feast-never-5 t f h = feast-case t f (between 1 f 48) refl h
+feast-answered t f h e =
+    let r = rule-answered t (rule f) h (rule-good (leap (t .style) (t .year)) f e) in
+    (r .0, rw e (r .1))
+
+-- what a call for a feast can answer, as one number
+abbrev pub FeastNumber : ℕ → Type 0
+FeastNumber n = (n ≡ 1) ⊎ ((n ≡ 4) ⊎ ((n ≡ 6) ⊎ (1721424 ≤ n)))
+
+behind : (t : Bool) (x : Refusal) (a : DayAnswer) → FeastNumber (refusalNumber x) → (t ≡ true → FeastNumber (dayOrRefusal a))
+    → FeastNumber (dayOrRefusal (unless t (NoDay x) a))
+behind true x a f g = g refl
+behind false x a f g = f
+
+in-year : (t : Bool) (s : Style) (n : ℕ) → FeastNumber (dayOrRefusal (unless t (NoDay Year) (within s n)))
+unfolding within
+in-year t s n =
+    behind t Year (unless (inSpan s n) (NoDay Span) (Day n)) (inr (inl refl))
+    (λ e. behind (inSpan s n) Span (Day n) (inr (inr (inl refl))) (λ i. inr (inr (inr (span-small s n i .0)))))
+
+rule-number : (t : NamedYear) (r : Rule) → T (good (leap (t .style) (t .year)) r) → FeastNumber (dayOrRefusal (ruleDay t r))
+unfolding good dayInYear
+rule-number t (before k) g = in-year (hasEaster (t .style) (t .year)) (t .style) (easter (t .style) (t .year) - k)
+rule-number t (after k) g = in-year (hasEaster (t .style) (t .year)) (t .style) (easter (t .style) (t .year) + k)
+rule-number t (on d m) g =
+    rw (date-is (t .style) (t .year) m d g) (in-year (served (t .style) (t .year)) (t .style) (dayNumber (t .style) (t .year) m d))
+rule-number t advent g = in-year (served (t .style) (t .year)) (t .style) (adventSunday (t .style) (t .year))
+
+feast-number : (t : NamedYear) (f : ℕ) → FeastNumber (dayOrRefusal (feastInYear t f))
+unfolding feastInYear
+feast-number t f =
+    behind (between 1 f 48) Name (ruleDay t (rule f)) (inl refl) (λ e. rule-number t (rule f) (rule-good (leap (t .style) (t .year)) f e))
+
+style-case : (k f y : ℕ) (a b : Bool)
+    → FeastNumber (dayOrRefusal (inStyle NoDay (λ s. feastInYear (named s y) f) (cond a (Known Julian) (cond b (Known Gregorian) (NoStyle Name)))))
+style-case k f y true b = feast-number (named Julian y) f
+style-case k f y false true = feast-number (named Gregorian y) f
+style-case k f y false false = inl refl
+
+pub feast-numbers : (k f y : ℕ) → FeastNumber (dayOrRefusal (feastOfYear k f y))
+unfolding styleOf
+feast-numbers k f y = style-case k f y (eqb k 1) (eqb k 2)

@@ -8,6 +8,7 @@ use lib.Dec.{eqb}
 use borrow.Author.Tests.{leb-true, eqb-true, le-leb, lt-ltb, le-ltb}
 use Rattle.calendar.proofs.date.Dates.{date-bounds}
 use Rattle.calendar.proofs.date.Months.{leap-day}
+use Rattle.church.proofs.easter.Laws.{march-21}
 use Rattle.calendar.specs.Date.{daysOfMonths, isDate, dayNumber}
 use Rattle.calendar.specs.Range.{between}
 use Rattle.calendar.specs.Weekday.{weekday, sunday}
@@ -25,12 +26,12 @@ abbrev pub ahead : Part → Bool → ℕ
 ahead first b = cond b 1 0
 ahead second b = 0
 
-small : (p : Part) (b : Bool) → (ahead p b ≤ 1) × (before p b + ahead p b ≡ cond b 1 0)
+leap-split : (p : Part) (b : Bool) → (ahead p b ≤ 1) × (before p b + ahead p b ≡ cond b 1 0)
 unfolding before
-small first true = omega arith
-small first false = omega arith
-small second true = omega arith
-small second false = omega arith
+leap-split first true = omega arith
+leap-split first false = omega arith
+leap-split second true = omega arith
+leap-split second false = omega arith
 
 early-month : (m : ℕ) (a b c : Bool) → eqb m 1 ≡ a → eqb m 2 ≡ b → a || b && c ≡ true → m ≤ 2
 early-month m true b c e f h = omega (arith, eqb-true)
@@ -46,19 +47,13 @@ counted second b m d low high h =
     let late = leb-true 3 m h in
     rw and-true at (leap-day b true (pred m) (omega arith) (lt-ltb 1 (pred m) (omega arith)))
 
--- 21 March is the day 79 of a common year, the first being 0
-march-21 : (b : Bool) → daysOfMonths b 2 ≡ 59 + cond b 1 0
-unfolding daysOfMonths
-march-21 true = refl
-march-21 false = refl
-
--- what a day's place i in a common year is to the day n, with e for 21 March
+-- how far a date and 21 March are apart, told by the date's place in a common year
 placed : (s : Style) (y : ℕ) (p : Part) (m d : ℕ) → isDate s y m d ≡ true → inPart p m d ≡ true
     → dayNumber s y m d + 79 + ahead p (leap s y) ≡ march s y 21 + (daysOfMonths false (pred m) + pred d)
 unfolding dayNumber march
 placed s y p m d h g =
     let b = date-bounds s y m d h in
-    omega (arith, small p (leap s y), march-21 (leap s y), counted p (leap s y) m d (b .month-low) (b .month-high) g)
+    omega (arith, leap-split p (leap s y), march-21 (leap s y), counted p (leap s y) m d (b .month-low) (b .month-high) g)
 
 -- the letter of the Sundays, with e for 21 March
 abbrev pub closed : Part → Bool → ℕ → ℕ
@@ -69,7 +64,7 @@ pub borne : (s : Style) (y : ℕ) (p : Part) (m d : ℕ) → isDate s y m d ≡ 
     → (weekday (dayNumber s y m d) ≡ sunday) ↔ (letterOf m d ≡ closed p (leap s y) (march s y 21))
 borne s y p m d h g =
     let e = placed s y p m d h g in
-    let x = small p (leap s y) in
+    let x = leap-split p (leap s y) in
     (λ w. omega arith, λ l. omega arith)
 
 pub sundays : (s : Style) (y : ℕ) (p : Part) → SundayLetter s y p (closed p (leap s y) (march s y 21))

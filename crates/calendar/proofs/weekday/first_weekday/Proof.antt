@@ -21,6 +21,11 @@ sub-result c = omega (arith, week (c .before .before))
 sub-back : tie.Need-sub-back
 sub-back c = omega (arith, week (c .before .before))
 
+returns-4 : tie.Need-returns-4
+returns-4 c =
+    let w = week (c .before .before .before) in
+    rw (c .before .enum-told2 .given .1) (sym (before-closed _ _ (w .0) (w .1) (c .if2 .left)))
+
 returns-2 : tie.Need-returns-2
 returns-2 c =
     let w = week (c .before .before .before) in
@@ -30,11 +35,6 @@ returns-3 : tie.Need-returns-3
 returns-3 c =
     let w = week (c .before .before) in
     rw (c .enum-told .given .1) (sym (after-closed _ _ (w .0) (w .1)))
-
-returns-4 : tie.Need-returns-4
-returns-4 c =
-    let w = week (c .before .before .before) in
-    rw (c .before .enum-told2 .given .1) (sym (before-closed _ _ (w .0) (w .1) (c .if2 .left)))
 
 pub first-weekday-spec : {M : Type 1} → statement M
 first-weekday-spec =

@@ -2,9 +2,9 @@ use mathlib.Core.Bool.{true≢false}
 use mathlib.Core.Path.{_≡_, sym, _∙_, ap}
 use Prim.Native.Nat.{_+_, _-_, _≤_}
 use native.Mathlib.Omega.{arith}
-use Rattle.church.proofs.column.Laws.{walk, Walked, walked}
+use Rattle.church.proofs.column.Laws.{Walked, walked}
 use Rattle.church.proofs.epact.Laws.{epact-small}
-use Rattle.church.specs.Column.{stands, luna}
+use Rattle.church.specs.Column.{stands, walk, luna}
 use Rattle.church.proofs.column.luna_one.Statement.{statement}
 use Rattle.church.proofs.column.luna_one.Tie as tie
 
@@ -60,7 +60,7 @@ luna-one-spec =
     Inv-loop
     μ-loop
     (λ c κs. tt)
-    (λ c κs. tt)
+    (λ c κs. c .epact-number .ensures)
     loop-holds
     stands-at-requires
     add-day

@@ -1,9 +1,10 @@
 use mathlib.Core.Bool.{true}
-use mathlib.Core.Path.{_≡_, sym, _∙_}
+use mathlib.Core.Path.{_≡_, sym, _∙_, ap}
 use borrow.Author.Needs.{needs}
 use Rattle.calendar.proofs.refusal.Laws.{passed-day, refused}
-use Rattle.church.proofs.easter.Laws.{equinox-small}
+use Rattle.church.proofs.easter.Laws.{equinox-small, limit-range, easter-closed}
 use Rattle.church.specs.Easter.{march, hasEaster}
+use Rattle.calendar.specs.declared.span.DayAnswer.the-variants.{Day}
 use Rattle.church.proofs.easter.easter_of_year.Statement.{statement}
 use Rattle.church.proofs.easter.easter_of_year.Tie as tie
 
@@ -18,15 +19,26 @@ is-day : (c : tie.After-answer)
     × (march (c .before .before .before .args .named .style) (c .before .before .before .args .named .year) 21 ≡ c .answer .given .0 .0)
 is-day c = passed-day _ _ _ _ (sym (c .before .before .equinox .ensures) ∙ c .answer .given .1)
 
-easter-from-requires : tie.Need-easter-from-requires
-easter-from-requires c κs =
-    let d = is-day (c .before) in
-    (sym (d .1), rw (← d .1) (equinox-small _ _ (d .0) .1))
+easter-after-requires : tie.Need-easter-after-requires
+easter-after-requires c κs =
+    let d = is-day (c .before .before) in
+    let m = equinox-small _ _ (d .0) in
+    let l = limit-range _ _ in
+    rw (← d .1, c .limit-of-year .ensures) (m .0, m .1, l .0, l .1)
 
 returns-2 : tie.Need-returns-2
-returns-2 c = rw (is-day (c .before .before) .0, c .easter-from .ensures)
+returns-2 c =
+    let d = is-day (c .before .before .before) in
+    rw (d .0, c .easter-after .ensures, c .before .limit-of-year .ensures, ← d .1) (ap Day (easter-closed _ _))
 
 pub easter-of-year-spec : {M : Type 1} → statement M
 easter-of-year-spec =
     tie.close
-    (tie.spec (λ c κs. search needs) (λ c. search needs) (λ c. search needs) returns easter-from-requires returns-2)
+    (tie.spec
+    (λ c κs. search needs)
+    (λ c. search needs)
+    (λ c. search needs)
+    returns
+    (λ c κs. search needs)
+    easter-after-requires
+    returns-2)

@@ -6,23 +6,15 @@ use Rattle.church.proofs.epact.is_arabic.Statement.{statement}
 use Rattle.church.proofs.epact.is_arabic.Tie as tie
 
 returns : tie.Need-returns
-returns c = sym (not-25 _ _ (λ e. c .if1 .taken (c .before .epact-number .ensures ∙ e)))
+returns c = sym (not-25 _ _ (λ e. c .if1 .taken (c .before .before .before .pre ∙ e)))
 
 returns-2 : tie.Need-returns-2
 unfolding arabic
 returns-2 c = rw (c .enum-told .given .1)
 
 returns-3 : tie.Need-returns-3
-returns-3 c = rw (c .golden-number .ensures) (sym (is-25 _ _ (c .before .before .before .enum-told2 .given .1) (sym (c .before .before .epact-number .ensures) ∙ c .before .if1 .left)))
+returns-3 c = rw (c .golden-number .ensures) (sym (is-25 _ _ (c .before .before .enum-told2 .given .1) (sym (c .before .before .before .before .pre) ∙ c .before .if1 .left)))
 
 pub is-arabic-spec : {M : Type 1} → statement M
 is-arabic-spec =
-    tie.close
-    (tie.spec
-    (λ c. search needs)
-    (λ c. search needs)
-    (λ c κs. search needs)
-    returns
-    (λ c κs. search needs)
-    returns-2
-    returns-3)
+    tie.close (tie.spec (λ c. search needs) (λ c. search needs) returns (λ c κs. search needs) returns-2 returns-3)

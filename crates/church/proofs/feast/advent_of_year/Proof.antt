@@ -8,12 +8,6 @@ use Rattle.calendar.specs.Year.{served}
 use Rattle.church.proofs.feast.advent_of_year.Statement.{statement}
 use Rattle.church.proofs.feast.advent_of_year.Tie as tie
 
-returns : tie.Need-returns
-returns c =
-    let named = c .before .before .before .args .named in
-    let e = c .before .before .day-in-year .ensures ∙ eve-answer (named .style) (named .year) in
-    e ∙ refused (served (named .style) (named .year)) _ _ _ _ (sym e ∙ c .enum-told .given .1)
-
 is-day : (c : tie.After-answer)
     → (served (c .before .before .before .args .named .style) (c .before .before .before .args .named .year) ≡ true)
     × (dayNumber (c .before .before .before .args .named .style) (c .before .before .before .args .named .year) 11 26 ≡ c .answer .given .0 .0)
@@ -23,6 +17,12 @@ returns-2 : tie.Need-returns-2
 returns-2 c =
     let d = is-day (c .before .before .before) in
     rw (d .0, advent-after, d .1, ← c .before .first-weekday .ensures) (c .day-within .ensures)
+
+returns : tie.Need-returns
+returns c =
+    let named = c .before .before .before .args .named in
+    let e = c .before .before .day-in-year .ensures ∙ eve-answer (named .style) (named .year) in
+    e ∙ refused (served (named .style) (named .year)) _ _ _ _ (sym e ∙ c .enum-told .given .1)
 
 pub advent-of-year-spec : {M : Type 1} → statement M
 advent-of-year-spec =

@@ -10,12 +10,12 @@ use Rattle.church.specs.Feast.{feastInYear}
 use Rattle.church.proofs.feast.feast_in_year.Statement.{statement}
 use Rattle.church.proofs.feast.feast_in_year.Tie as tie
 
+in-list : (c : tie.Else1) → between 1 (c .before .before .args .feast) 48 ≡ true
+in-list c = held (c .before .is-between .ensures) (c .if1 .left)
+
 returns : tie.Need-returns
 unfolding feastInYear
 returns c = rw (failed (c .before .is-between .ensures) (c .if1 .taken))
-
-in-list : (c : tie.Else1) → between 1 (c .before .before .args .feast) 48 ≡ true
-in-list c = held (c .before .is-between .ensures) (c .if1 .left)
 
 listed : (c : tie.Else1) → (1 ≤ c .before .before .args .feast) × (c .before .before .args .feast ≤ 48)
 listed c = range 1 _ 48 (in-list c)
@@ -27,12 +27,12 @@ returns-2 : tie.Need-returns-2
 unfolding feastInYear
 returns-2 c = rw (in-list (c .before .before)) (c .hung-on-easter .ensures)
 
-fixed-requires : tie.Need-fixed-requires
-fixed-requires c κs = omega (arith, listed (c .before .before))
+fixed-in-year-requires : tie.Need-fixed-in-year-requires
+fixed-in-year-requires c κs = omega (arith, listed (c .before .before))
 
 returns-3 : tie.Need-returns-3
 unfolding feastInYear
-returns-3 c = rw (in-list (c .before .before .before)) (c .fixed .ensures)
+returns-3 c = rw (in-list (c .before .before .before)) (c .fixed-in-year .ensures)
 
 returns-4 : tie.Need-returns-4
 unfolding feastInYear
@@ -48,7 +48,7 @@ feast-in-year-spec =
     returns
     hung-on-easter-requires
     returns-2
-    fixed-requires
+    fixed-in-year-requires
     returns-3
     (λ c κs. search needs)
     returns-4)

@@ -34,7 +34,7 @@ is-day c = passed-day _ _ _ _ (sym (c .before .before .easter-of-year .ensures) 
 returns-2 : tie.Need-returns-2
 returns-2 c = rw (hung (c .before .before .before .before .before), is-day (c .before .before) .0, is-day (c .before .before) .1) (c .day-within .ensures)
 
-sizes : (c : tie.After-answer) → (1721424 ≤ c .answer .given .0 .0) × (c .answer .given .0 .0 ≤ 5373592)
+sizes : (c : tie.After-answer) → (1721424 ≤ c .answer .given .0 .0) × (c .answer .given .0 .0 ≤ 5373557)
 sizes c = rw (← is-day c .1) (easter-small _ _ (is-day c .0))
 
 add-day-within : tie.Need-add-day-within

@@ -3,8 +3,8 @@ use mathlib.Core.Path.{_≡_, sym, _∙_}
 use native.Mathlib.Omega.{arith}
 use borrow.Author.Needs.{needs}
 use Rattle.calendar.proofs.refusal.Laws.{passed-day, refused-by}
-use Rattle.church.proofs.easter.Laws.{equinox-small, easter-facts}
-use Rattle.church.specs.Easter.{march, key, hasEaster}
+use Rattle.church.proofs.easter.Laws.{equinox-small, limit-range, easter-facts, easter-closed}
+use Rattle.church.specs.Easter.{march, easter, key, hasEaster}
 use Rattle.church.proofs.sheet.sheet_in_year.Statement.{statement}
 use Rattle.church.proofs.sheet.sheet_in_year.Tie as tie
 
@@ -16,38 +16,47 @@ is-day c = passed-day _ _ _ _ (sym (c .before .before .equinox .ensures) ∙ c .
 returns : tie.Need-returns
 returns c = refused-by _ _ _ _ (sym (c .before .before .before .equinox .ensures) ∙ c .before .refusal .given .1)
 
-easter-from-requires : tie.Need-easter-from-requires
-easter-from-requires c κs =
-    let d = is-day (c .before) in
-    (sym (d .1), rw (← d .1) (equinox-small _ _ (d .0) .1))
+easter-after-requires : tie.Need-easter-after-requires
+easter-after-requires c κs =
+    let d = is-day (c .before .before) in
+    let m = equinox-small _ _ (d .0) in
+    let l = limit-range _ _ in
+    rw (← d .1, c .limit-of-year .ensures) (m .0, m .1, l .0, l .1)
+
+easter-is : (c : tie.After-easter-after)
+    → c .easter-after .result ≡ easter (c .before .before .before .before .before .before .args .named .style) (c .before .before .before .before .before .before .args .named .year)
+easter-is c =
+    rw (c .easter-after .ensures, c .before .limit-of-year .ensures, ← is-day (c .before .before .before) .1) (easter-closed _ _)
 
 sub-key : tie.Need-sub-key
 sub-key c =
-    let named = c .before .before .before .before .before .args .named in
-    rw (c .easter-from .ensures, ← is-day (c .before .before) .1) (omega (arith, easter-facts (named .style) (named .year)))
+    let named = c .before .before .before .before .before .before .args .named in
+    rw (easter-is c, ← is-day (c .before .before .before) .1) (omega (arith, easter-facts (named .style) (named .year)))
 
 first-letter-requires : tie.Need-first-letter-requires
-first-letter-requires c κs = sym (is-day (c .before .before) .1)
+first-letter-requires c κs = sym (is-day (c .before .before .before .before) .1)
 
 second-letter-requires : tie.Need-second-letter-requires
-second-letter-requires c κs = sym (is-day (c .before .before .before) .1)
+second-letter-requires c κs = sym (is-day (c .before .before .before .before .before) .1)
+
+is-arabic-requires : tie.Need-is-arabic-requires
+is-arabic-requires c κs = c .before .before .before .before .epact-number .ensures
 
 returns-2 : tie.Need-returns-2
 unfolding key
 returns-2 c =
-    let d = is-day (c .before .before .before .before .before .before .before .before .before) in
-    let easter-is = c .before .before .before .before .before .before .before .easter-from .ensures in (
+    let d = is-day (c .before .before .before .before .before .before .before .before .before) in (
       d .0,
       record {
-        its-leap = c .before .before .before .before .is-leap .ensures;
-        its-golden = c .before .before .before .golden-number .ensures;
-        its-epact = c .before .before .epact-number .ensures;
-        its-arabic = c .before .is-arabic .ensures;
-        its-first = c .before .before .before .before .before .before .first-letter .ensures;
-        its-second = c .before .before .before .before .before .second-letter .ensures;
-        its-limit = c .limit-of-year .ensures;
-        its-key = rw (easter-is, ← d .1);
-        its-easter = easter-is;
+        its-leap = c .before .before .is-leap .ensures;
+        its-golden = c .before .golden-number .ensures;
+        its-epact = c .before .before .before .before .before .epact-number .ensures;
+        its-arabic = c .is-arabic .ensures;
+        its-first = c .before .before .before .before .first-letter .ensures;
+        its-second = c .before .before .before .second-letter .ensures;
+        its-limit = c .before .before .before .before .before .before .before .limit-of-year .ensures;
+        its-key = rw (easter-is (c .before .before .before .before .before .before), ← d .1);
+        its-easter = easter-is (c .before .before .before .before .before .before);
       },
     )
 
@@ -59,14 +68,14 @@ sheet-in-year-spec =
     (λ c. search needs)
     (λ c. search needs)
     returns
-    easter-from-requires
+    (λ c κs. search needs)
+    easter-after-requires
     sub-key
     (λ c. search needs)
+    (λ c κs. search needs)
     first-letter-requires
     second-letter-requires
     (λ c κs. search needs)
     (λ c κs. search needs)
-    (λ c κs. search needs)
-    (λ c κs. search needs)
-    (λ c κs. search needs)
+    is-arabic-requires
     returns-2)
