@@ -6,6 +6,7 @@ mod days;
 mod feasts;
 mod outside;
 mod sheets;
+mod tables;
 mod years;
 
 use std::process::ExitCode;

@@ -30,15 +30,19 @@ pub fn parts(line: &str) -> Option<Line<'_>> {
     }
 }
 
-/// Both styles' served years, with G 1582, which has feasts and no sheet.
-fn calls() -> impl Iterator<Item = String> {
-    let years = |style, first: i128| (first..=9999).map(move |year| format!("year {style} {year}"));
+/// The style and year of each call; G 1582 has feasts and no sheet.
+fn calls() -> impl Iterator<Item = (i128, i128)> {
+    let years = |style, first| (first..=9999).map(move |year| (style, year));
     years(1, 1).chain(years(2, 1582))
 }
 
+fn text(style: i128, year: i128) -> String {
+    format!("year {style} {year}")
+}
+
 pub fn print() -> ExitCode {
-    for call in calls() {
-        println!("{call}");
+    for (style, year) in calls() {
+        println!("{}", text(style, year));
     }
     ExitCode::SUCCESS
 }
@@ -61,8 +65,8 @@ fn difference(line: &str, own: &str) -> String {
 pub fn compare(lines: impl BufRead) -> ExitCode {
     let mut lines = lines.lines().map(|line| line.expect("the lines can be read"));
     let mut count = 0;
-    for call in calls() {
-        let (style, year) = call[5..].split_once(' ').expect("a call has a style and a year");
+    for (style, year) in calls() {
+        let call = text(style, year);
         let own = format!("{call}: {}", answered(&call));
         match lines.next() {
             Some(line) if line == own => count += 1,
