@@ -9,8 +9,8 @@ use Rattle.calendar.specs.declared.style.Style.the-variants.{Julian, Gregorian}
 use Rattle.calendar.specs.declared.style.Style.{Style}
 
 -- whether the epact e stands at the day d; a is whether it is the Arabic 25
--- "J: epacts 1 to 26 stand at 34 less the epact, 28 and 29 at 64 less it."
--- "G: epacts 0 to 23 stand at 31 less the epact; 26 to 29 at 61 less it; XXV and XXIV both at 36; Arabic 25 at 35"
+-- "J: epacts 1 to 26 stand at 34 less the epact, 28 and 29 at 64 less it. Others don't occur."
+-- "G: epacts 0 to 23 stand at 31 less the epact; 26 to 29 at 61 less it; XXV and XXIV both at 36; Arabic 25 at 35, beside XXVI."
 unfoldable pub stands : Style → ℕ → Bool → ℕ → Bool
 stands Julian e a d =
     between 1 e 26 && eqb d (34 - e)

@@ -25,6 +25,7 @@ pub data Rule : Type 0 where
   on : (day month : ℕ) → Rule
   advent : Rule
 
+-- a feast's word and its rule
 infix 68 _is_
 pub data Feast : Type 0 where
   _is_ : String → Rule → Feast
