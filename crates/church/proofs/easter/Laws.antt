@@ -102,12 +102,19 @@ unfolding hasEaster isDate between march
 equinox-answer s y n =
     rw (n, and-true) (answered s y 3 21 refl (λ r. near-easter s y (march s y 21) (has-easter s y r n) (omega arith) (omega arith)))
 
-pub equinox-small : (s : Style) (y : ℕ) → hasEaster s y ≡ true → (1721424 ≤ march s y 21) × (march s y 21 ≤ 5373557)
+equinox-small : (s : Style) (y : ℕ) → hasEaster s y ≡ true → (1721424 ≤ march s y 21) × (march s y 21 ≤ 5373557)
 equinox-small s y h = span-small s (march s y 21) (near-easter s y (march s y 21) h (omega arith) (omega arith))
 
 pub limit-range : (s : Style) (y : ℕ) → (21 ≤ limit s y) × (limit s y ≤ 49)
 unfolding limit
 limit-range s y = omega (arith, luna-range s y)
+
+-- what the search for Easter asks of the day n of 21 March and of the limit
+pub easter-asked : (s : Style) (y n : ℕ) → hasEaster s y ≡ true → march s y 21 ≡ n → (1721424 ≤ n) × (n ≤ 5373557) × (21 ≤ limit s y) × (limit s y ≤ 49)
+easter-asked s y n h e =
+    let m = equinox-small s y h in
+    let l = limit-range s y in
+    rw (← e) (m .0, m .1, l .0, l .1)
 
 -- days of March counted from the 21st
 march-from : (s : Style) (y d : ℕ) → 21 ≤ d → march s y d ≡ march s y 21 + d - 21

@@ -2,7 +2,7 @@ use mathlib.Core.Bool.{true}
 use mathlib.Core.Path.{_≡_, sym, _∙_, ap}
 use borrow.Author.Needs.{needs}
 use Rattle.calendar.proofs.refusal.Laws.{passed-day, refused}
-use Rattle.church.proofs.easter.Laws.{equinox-small, limit-range, easter-closed}
+use Rattle.church.proofs.easter.Laws.{easter-asked, easter-closed}
 use Rattle.church.specs.Easter.{march, hasEaster}
 use Rattle.calendar.specs.declared.span.DayAnswer.the-variants.{Day}
 use Rattle.church.proofs.easter.easter_of_year.Statement.{statement}
@@ -22,9 +22,7 @@ is-day c = passed-day _ _ _ _ (sym (c .before .before .equinox .ensures) ∙ c .
 easter-after-requires : tie.Need-easter-after-requires
 easter-after-requires c κs =
     let d = is-day (c .before .before) in
-    let m = equinox-small _ _ (d .0) in
-    let l = limit-range _ _ in
-    rw (← d .1, c .limit-of-year .ensures) (m .0, m .1, l .0, l .1)
+    rw (c .limit-of-year .ensures) (easter-asked _ _ _ (d .0) (d .1))
 
 returns-2 : tie.Need-returns-2
 returns-2 c =

@@ -3,7 +3,7 @@ use mathlib.Core.Path.{_≡_, sym, _∙_}
 use native.Mathlib.Omega.{arith}
 use borrow.Author.Needs.{needs}
 use Rattle.calendar.proofs.refusal.Laws.{passed-day, refused-by}
-use Rattle.church.proofs.easter.Laws.{equinox-small, limit-range, easter-facts, easter-closed}
+use Rattle.church.proofs.easter.Laws.{easter-asked, easter-facts, easter-closed}
 use Rattle.church.specs.Easter.{march, easter, key, hasEaster}
 use Rattle.church.proofs.sheet.sheet_in_year.Statement.{statement}
 use Rattle.church.proofs.sheet.sheet_in_year.Tie as tie
@@ -19,9 +19,7 @@ returns c = refused-by _ _ _ _ (sym (c .before .before .before .equinox .ensures
 easter-after-requires : tie.Need-easter-after-requires
 easter-after-requires c κs =
     let d = is-day (c .before .before) in
-    let m = equinox-small _ _ (d .0) in
-    let l = limit-range _ _ in
-    rw (← d .1, c .limit-of-year .ensures) (m .0, m .1, l .0, l .1)
+    rw (c .limit-of-year .ensures) (easter-asked _ _ _ (d .0) (d .1))
 
 easter-is : (c : tie.After-easter-after)
     → c .easter-after .result ≡ easter (c .before .before .before .before .before .before .args .named .style) (c .before .before .before .before .before .before .args .named .year)
