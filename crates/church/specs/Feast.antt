@@ -86,9 +86,12 @@ feasts =
     ∷ "advent" is advent
     ∷ []
 
--- the rule of the feast with the number f from 1 to 48
+-- the feast with the number f from 1 to 48
+abbrev pub feastOf : ℕ → Feast
+feastOf f = getD feasts (pred f) ("" is on 0 0)
+
 abbrev pub rule : ℕ → Rule
-rule f = ruleOf (getD feasts (pred f) ("" is on 0 0))
+rule f = ruleOf (feastOf f)
 
 -- "advent is the Sunday from 27 November to 3 December": the first of these seven days that is a Sunday
 unfoldable pub adventSunday : Style → ℕ → ℕ

@@ -4,9 +4,12 @@ use mathlib.Core.Path.{_≡_}
 use Prim.Native.Nat.{ℕ, suc, _≤_}
 use native.Mathlib.Omega.{arith}
 use Rattle.calendar.proofs.range.Laws.{range, in-range}
+use Rattle.calendar.proofs.refusal.Laws.{passed-day}
 use Rattle.calendar.proofs.year.Laws.{new-year-closed, new-year-rises, year-not-after}
-use Rattle.calendar.specs.Span.{firstDay, lastDay, inSpan}
+use Rattle.calendar.specs.Span.{firstDay, lastDay, inSpan, within}
 use Rattle.calendar.specs.Year.{newYear, YearOf, firstYear, served}
+use Rattle.calendar.specs.declared.refusal.Refusal.the-variants.{Span}
+use Rattle.calendar.specs.declared.span.DayAnswer.the-variants.{Day}
 use Rattle.calendar.specs.declared.style.Style.the-variants.{Julian, Gregorian}
 use Rattle.calendar.specs.declared.style.Style.{Style}
 
@@ -18,6 +21,13 @@ span-range s n e = range (firstDay s) n (lastDay s) e
 pub served-range : (s : Style) (y : ℕ) → served s y ≡ true → (firstYear s ≤ y) × (y ≤ 9999)
 unfolding served
 served-range s y e = range (firstYear s) y 9999 e
+
+-- an answered day lies in the span
+pub within-span : (s : Style) (m n : ℕ) → within s m ≡ Day n → inSpan s n ≡ true
+unfolding within
+within-span s m n e =
+    let p = passed-day (inSpan s m) Span m n e in
+    rw (p .1) at (p .0)
 
 -- bounds that hold for both styles
 ends : (s : Style) → (1 ≤ firstYear s) × (1721424 ≤ firstDay s) × (lastDay s ≤ 5373557)

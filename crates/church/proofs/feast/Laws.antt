@@ -9,10 +9,11 @@ use lib.Dec.{T, leb, eqb, leb→le, eqb→eq}
 use lib.ListN.{getD}
 use Rattle.calendar.proofs.Each.{below, of-both, T-both, is-true}
 use Rattle.calendar.proofs.date.Dates.{date-bounds, Dated, year-of}
+use Rattle.calendar.proofs.date.Laws as date-laws
 use Rattle.calendar.proofs.date.Laws.{has-day, date-in-span, answered}
 use Rattle.calendar.proofs.range.Laws.{range}
-use Rattle.calendar.proofs.refusal.Laws.{no-day}
-use Rattle.calendar.proofs.span.Laws.{span-small, served-small, served-range}
+use Rattle.calendar.proofs.refusal.Laws.{no-day, passed}
+use Rattle.calendar.proofs.span.Laws.{within-span, span-small, served-small, served-range}
 use Rattle.calendar.proofs.weekday.Laws.{is-later}
 use Rattle.calendar.proofs.year.Laws.{new-year-closed}
 use Rattle.calendar.specs.Date.{monthLength, daysOfMonths, isDate, dayNumber, dayInYear}
@@ -201,6 +202,20 @@ unfolding feastInYear
 feast-answered t f h e =
     let r = rule-answered t (rule f) h (rule-good (leap (t .style) (t .year)) f e) in
     (r .0, rw e (r .1))
+
+-- an answered day lies in the span
+behind-test : (t : Bool) (x : Refusal) (s : Style) (m n : ℕ) → unless t (NoDay x) (within s m) ≡ Day n → inSpan s n ≡ true
+behind-test t x s m n e = within-span s m n (passed t x (within s m) n e .1)
+
+rule-in-span : (t : NamedYear) (r : Rule) (n : ℕ) → ruleDay t r ≡ Day n → inSpan (t .style) n ≡ true
+rule-in-span t (before k) n e = behind-test (hasEaster (t .style) (t .year)) Year (t .style) (easter (t .style) (t .year) - k) n e
+rule-in-span t (after k) n e = behind-test (hasEaster (t .style) (t .year)) Year (t .style) (easter (t .style) (t .year) + k) n e
+rule-in-span t (on d m) n e = date-laws.dated (t .style) n (t .year) m d e .0
+rule-in-span t advent n e = behind-test (served (t .style) (t .year)) Year (t .style) (adventSunday (t .style) (t .year)) n e
+
+pub feast-in-span : (t : NamedYear) (f n : ℕ) → feastInYear t f ≡ Day n → inSpan (t .style) n ≡ true
+unfolding feastInYear
+feast-in-span t f n e = rule-in-span t (rule f) n (passed (between 1 f 48) Name (ruleDay t (rule f)) n e .1)
 
 -- what a call for a feast can answer, as one number
 abbrev pub FeastNumber : ℕ → Type 0

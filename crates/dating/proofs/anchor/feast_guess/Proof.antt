@@ -1,0 +1,28 @@
+use native.Mathlib.Omega.{arith}
+use borrow.Author.Needs.{needs}
+use Rattle.dating.proofs.anchor.Laws.{guess, no-guess}
+use Rattle.dating.proofs.anchor.feast_guess.Statement.{statement}
+use Rattle.dating.proofs.anchor.feast_guess.Tie as tie
+
+returns : tie.Need-returns
+returns c = no-guess _ (λ l. omega (arith, l, c .if1 .taken))
+
+returns-2 : tie.Need-returns-2
+returns-2 c = no-guess _ (λ l. omega (arith, l, c .if2 .taken))
+
+returns-3 : tie.Need-returns-3
+returns-3 c = rw (c .slot .ensures) (guess (c .before .before .before .before .before .before .args .word .now))
+
+pub feast-guess-spec : {M : Type 1} → statement M
+feast-guess-spec =
+    tie.close
+    (tie.spec
+    returns
+    returns-2
+    (λ c. search needs)
+    (λ c. search needs)
+    (λ c. search needs)
+    (λ c κs. search needs)
+    (λ c. search needs)
+    (λ c. search needs)
+    returns-3)

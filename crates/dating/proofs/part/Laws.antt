@@ -1,0 +1,181 @@
+-- The part: where the last word of the phrase begins, and what stands there.
+use mathlib.Core.Bool.{true, false}
+use mathlib.Core.List.{List, [], _∷_, _++_, append-assoc, append-nil}
+use mathlib.Core.Path.{_≡_, refl, sym, _∙_, ap, subst}
+use Prim.Native.Nat.{ℕ, _+_, _-_, _<_, _≤_}
+use native.Mathlib.Decide.{decLt}
+use native.Mathlib.Omega.{arith}
+use lib.ListN.{length, take, drop, length-append}
+use lib.Seq.{append-snoc, drop-at, take-append-seam, length-take-le}
+use denote.Ref.{RefT, ptr, now}
+use Rattle.calendar.proofs.refusal.Laws.{no-day}
+use Rattle.dating.proofs.Told.{one-told}
+use Rattle.dating.proofs.anchor.Laws.{lacks-space}
+use Rattle.dating.proofs.line.Laws.{TellsEnding, no-ending, ending-of, its-phrase, one-line, one-answer}
+use Rattle.dating.proofs.phrase.Laws.{spaced}
+use Rattle.dating.proofs.text.Laws.{no-false, has-here, cut, known-cut}
+use Rattle.dating.specs.Anchor.{Anchor, spellAnchor, GoodAnchor}
+use Rattle.dating.specs.Line.{Line, ending, spellLine, GoodLine, lines, lineDay, LineTold, unfit, fit, IsDayOfLine}
+use Rattle.dating.specs.Part.{Part, before, anchorOf, anchorPart, emptyPart, ifAccepted, linePart, IsPart, placeOf, PartOf}
+use Rattle.dating.specs.Phrase.{Phrase, plain, wrapped, spellPhrase, GoodPhrase}
+use Rattle.dating.specs.Steps.{has, BehindLast}
+use Rattle.dating.specs.Text.{space}
+use Rattle.dating.specs.Told.{Told, produced, unproduced}
+use Rattle.dating.specs.Wrapper.{wrapperWords}
+use Rattle.calendar.specs.declared.refusal.Refusal.the-variants.{Length, Form}
+use Rattle.calendar.specs.declared.refusal.Refusal.{Refusal}
+use Rattle.calendar.specs.declared.span.DayAnswer.the-variants.{Day, NoDay}
+use Rattle.calendar.specs.declared.span.DayAnswer.{DayAnswer}
+use Rattle.calendar.specs.declared.year.NamedYear.{NamedYear}
+use Rattle.dating.specs.declared.line.Ending.the-variants.{At, NoEnding}
+use Rattle.dating.specs.declared.part.Place.{Place}
+use Rattle.dating.specs.declared.wrapper.Wrapper.{Wrapper}
+
+-- the words of all wrappers of a phrase
+leads : Phrase → List ℕ
+leads (plain a) = []
+leads (wrapped w p) = wrapperWords w ++ leads p
+
+its-leads : (p : Phrase) → leads p ++ spellAnchor (anchorOf p) ≡ spellPhrase p
+unfolding leads anchorOf spellPhrase
+its-leads (plain a) = refl
+its-leads (wrapped w p) = append-assoc (wrapperWords w) (leads p) (spellAnchor (anchorOf p)) ∙ ap (λ (s : List ℕ). wrapperWords w ++ s) (its-leads p)
+
+leads-long : (p : Phrase) → length (leads p) ≡ before p
+unfolding leads before
+leads-long (plain a) = refl
+leads-long (wrapped w p) = length-append (wrapperWords w) (leads p) ∙ ap (λ (n : ℕ). length (wrapperWords w) + n) (leads-long p)
+
+anchor-good : (p : Phrase) → GoodPhrase p → GoodAnchor (anchorOf p)
+unfolding anchorOf GoodPhrase
+anchor-good (plain a) g = g
+anchor-good (wrapped w p) g = anchor-good p (g .1)
+
+-- wrappers end in a space
+leads-end : (w : Wrapper) (p : Phrase) → (x : List ℕ) × (leads (wrapped w p) ≡ x ++ space ∷ [])
+unfolding leads
+leads-end w (plain a) = let x = spaced w in (x .0, append-nil (wrapperWords w) ∙ x .1)
+leads-end w (wrapped v p) =
+    let x = leads-end v p in
+    (wrapperWords w ++ x .0, ap (λ (s : List ℕ). wrapperWords w ++ s) (x .1) ∙ sym (append-assoc (wrapperWords w) (x .0) (space ∷ [])))
+
+-- the feast word or date is the last word of its phrase
+pub last-word : (p : Phrase) (i : ℕ) → GoodPhrase p → BehindLast space (spellPhrase p) i → i ≡ before p
+unfolding spellPhrase anchorOf before GoodPhrase
+last-word (plain a) i g b =
+    elim (decLt 0 i) [
+      | yes low ↦
+          let s = spellAnchor a in
+          no-false (sym (ap (has space) (sym (cut space s i b low)) ∙ has-here space (take (i - 1) s) (drop i s)) ∙ lacks-space a g)
+      | no start ↦ omega arith
+    ]
+last-word (wrapped w p) i g b =
+    let x = leads-end w p in
+    let a = spellAnchor (anchorOf p) in
+    let whole : x .0 ++ space ∷ a ≡ spellPhrase (wrapped w p) = sym (append-snoc (x .0) space a) ∙ rw (← x .1) (its-leads (wrapped w p)) in
+    let k = known-cut space (spellPhrase (wrapped w p)) i b (x .0) a (lacks-space (anchorOf p) (anchor-good p (g .1))) whole in
+    let front = ap length (k .1) ∙ length-take-le (i - 1) (spellPhrase (wrapped w p)) (omega (arith, b .inside)) in
+    let long = sym (leads-long (wrapped w p)) ∙ ap length (x .1) ∙ length-append (x .0) (space ∷ []) in
+    omega (arith, k .0)
+
+pub phrase-long : (p : Phrase) → length (spellPhrase p) ≡ before p + length (spellAnchor (anchorOf p))
+phrase-long p = sym (ap length (its-leads p)) ∙ length-append (leads p) (spellAnchor (anchorOf p)) ∙ rw (leads-long p)
+
+-- ---- the place of the part
+abbrev pub IsPlace : List ℕ → Place → Type 0
+IsPlace s r = LineTold (λ l. placeOf (linePart l)) (λ x. placeOf emptyPart) s r
+
+module _ (s : List ℕ) where
+  pub refused-place : (x : Refusal) → IsDayOfLine s (NoDay x) → IsPlace s (placeOf emptyPart)
+  unfolding linePart
+  refused-place x (unfit h m) = unfit h refl
+  refused-place x (fit h (produced l g e m)) = fit h (produced l g e (rw (← m)))
+  refused-place x (fit h (unproduced none m)) = fit h (unproduced none refl)
+
+  module _ (n : ℕ) where
+    pub no-place : IsDayOfLine s (Day n) → TellsEnding s NoEnding → IsPlace s (placeOf emptyPart)
+    no-place (unfit h m) told = no-day Length n (sym m)
+    no-place (fit h (unproduced none m)) told = no-day Form n (sym m)
+    no-place (fit h (produced l g e m)) told = unlike (no-ending s NoEnding told refl)
+      where
+        unlike : Told lines lineDay (NoDay Form) s (NoDay Form) → IsPlace s (placeOf emptyPart)
+        unlike t = no-day Form n (one-told one-line (NoDay Form) (Day n) t (produced l g e m))
+
+    module _ (k i : ℕ) (t : NamedYear) (ends : TellsEnding s (At k t)) (b : BehindLast space (take k s) i) where
+      pub accepted-place : IsDayOfLine s (Day n) → IsPlace s (record { start = i; end = k })
+      unfolding linePart
+      accepted-place (unfit h m) = no-day Length n (sym m)
+      accepted-place (fit h (unproduced none m)) = no-day Form n (sym m)
+      accepted-place (fit h (produced l g e m)) =
+          let p = l .phrase in
+          let phrase = its-phrase s k t ends l g e .0 in
+          let start = last-word p i (g .phrase) (rw (← phrase) at b) in
+          let size = ap length phrase ∙ length-take-le k s (ending-of s k t ends .0) in
+          let stop : k ≡ before p + length (spellAnchor (anchorOf p)) = sym size ∙ phrase-long p in
+          fit h (produced l g e (rw (← m) (λ j. record { start = start j; end = stop j })))
+
+  -- the part whose place it is
+  pub its-part : (r : Place) → IsPlace s r → (p : Part) × IsPart s p × (r ≡ placeOf p)
+  its-part r (unfit h m) = (emptyPart, unfit h refl, m)
+  its-part r (fit h (produced l g e m)) = (linePart l, fit h (produced l g e refl), m)
+  its-part r (fit h (unproduced none m)) = (emptyPart, fit h (unproduced none refl), m)
+
+  -- the part stands in the line
+  abbrev pub Stands : Part → Type 0
+  Stands p = (p .start + length (p .text) ≤ length s) × (take (length (p .text)) (drop (p .start) s) ≡ p .text)
+
+  accepted-stands : (a : DayAnswer) (l : Line) → spellLine l ≡ s → Stands (ifAccepted a (anchorPart (l .phrase)))
+  unfolding spellLine
+  accepted-stands (NoDay x) l e = (omega arith, refl)
+  accepted-stands (Day n) l e =
+      let p = l .phrase in
+      let a = spellAnchor (anchorOf p) in
+      let whole : leads p ++ (a ++ ending (l .named)) ≡ s = sym (append-assoc (leads p) a (ending (l .named))) ∙ rw (its-leads p) e in
+      let size = sym (ap length whole) ∙ length-append (leads p) (a ++ ending (l .named)) in
+      let rest = length-append a (ending (l .named)) in
+      let long = leads-long p in
+      (omega arith, rw (← whole, drop-at (leads p) (a ++ ending (l .named)) (before p) long) (take-append-seam a (ending (l .named))))
+
+  pub stands : (p : Part) → IsPart s p → Stands p
+  unfolding linePart
+  stands p (unfit h m) = rw m (omega arith, refl)
+  stands p (fit h (produced l g e m)) = rw m (accepted-stands (lineDay l) l e)
+  stands p (fit h (unproduced none m)) = rw m (omega arith, refl)
+
+-- the slice between a part's places is the part
+module _ (s : List ℕ) where
+  pub part-bytes : (p : Part) → IsPart s p → take (placeOf p .end - placeOf p .start) (drop (placeOf p .start) s) ≡ p .text
+  part-bytes p h =
+      let count : p .start + length (p .text) - p .start ≡ length (p .text) = omega arith in
+      rw count (stands s p h .1)
+
+  module _ (r : Place) (h : IsPlace s r) where
+    pub ordered : r .start ≤ r .end
+    ordered = rw (its-part s r h .2) (omega arith)
+
+    pub inside : r .end ≤ length s
+    inside =
+        let p = its-part s r h in
+        rw (p .2) (stands s (p .0) (p .1) .0)
+
+-- so a slice that lies there is the part
+pub lies-there : (x r : RefT (List ℕ)) (q : Place) → IsPlace (now x) q → now r ≡ take (q .end - q .start) (drop (q .start) (now x))
+    → ptr r .0 ≡ ptr x .0 → ptr r .1 ≡ q .start + ptr x .1 → PartOf x r
+lies-there x r q h bytes block offset =
+    let p = its-part (now x) q h in
+    let at-place = subst (λ (o : Place). take (o .end - o .start) (drop (o .start) (now x)) ≡ p .0 .text) (sym (p .2)) (part-bytes (now x) (p .0) (p .1)) in
+    record {
+      part = p .0;
+      is-part = p .1;
+      contents = bytes ∙ at-place;
+      block = block;
+      offset = offset ∙ ap (λ (o : Place). o .start + ptr x .1) (p .2);
+    }
+
+-- two parts that the contract allows are one: the same bytes at the same place
+pub one-part : (x r q : RefT (List ℕ)) → PartOf x r → PartOf x q → (now r ≡ now q) × (ptr r ≡ ptr q)
+one-part x r q h k =
+    let same = one-answer (h .part) (k .part) (h .is-part) (k .is-part) in
+    let offsets = h .offset ∙ ap (λ (p : Part). p .start + ptr x .1) same ∙ sym (k .offset) in
+    let blocks = h .block ∙ sym (k .block) in
+    (h .contents ∙ ap (λ (p : Part). p .text) same ∙ sym (k .contents), λ i. (blocks i, offsets i))

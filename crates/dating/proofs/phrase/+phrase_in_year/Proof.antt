@@ -1,0 +1,106 @@
+use mathlib.Core.Path.{_≡_}
+use Prim.Native.Nat.{ℕ, _-_, _<_}
+use native.Mathlib.Omega.{arith}
+use lib.ListN.{length, drop, length-drop}
+use borrow.Author.Needs.{needs}
+use borrow.Fn.Kinds.{In}
+use borrow.Fn.PlainCycle.{Measures, is, falls, and}
+use Rattle.dating.proofs.phrase.Laws.{shorter, plain-told, wrapped-told, told-in-span}
+use Rattle.dating.proofs.text.Laws.{rest}
+use Rattle.dating.specs.Phrase.{phrases, phraseDay}
+use Rattle.dating.specs.Steps.{leadings, lead}
+use Rattle.dating.specs.Told.{Told}
+use Rattle.calendar.specs.declared.refusal.Refusal.the-variants.{Form}
+use Rattle.calendar.specs.declared.span.DayAnswer.the-variants.{Day, NoDay}
+use Rattle.dating.specs.declared.wrapper.Lead.the-variants.{Wrapped, Plain}
+use Rattle.dating.proofs.anchor.anchor_in_year.Reads as anchor-in-year-reads
+use Rattle.dating.proofs.phrase.+phrase_in_year.Lts-phrase_in_year as lts
+use Rattle.dating.proofs.phrase.phrase_in_year.Kinds as kinds
+use Rattle.dating.proofs.phrase.phrase_in_year.Reads as reads
+use Rattle.dating.proofs.wrapper.act.Reads as act-reads
+use Rattle.dating.proofs.wrapper.lead_of.Reads as lead-of-reads
+use Rattle.dating.proofs.phrase.+phrase_in_year.Tie.{close}
+use Rattle.dating.proofs.phrase.+phrase_in_year.{statement}
+
+-- the remaining length falls
+abbrev μ-phrase-in-year : Measures 1 kinds.ps ℕ
+μ-phrase-in-year κs a = length (a .0 .now)
+
+abbrev at : ℕ → In 1 kinds.ps
+at t = and 1 kinds.ps (is 1 kinds.ps μ-phrase-in-year t) reads.Pre
+
+abbrev below : ℕ → In 1 kinds.ps
+below t = and 1 kinds.ps (falls 1 kinds.ps _<_ μ-phrase-in-year t) reads.Pre
+
+-- what is asked and learnt of each callee, and of the reader itself below the measure t
+abbrev callees : ℕ → lts.Claims
+callees t = (
+  lead-of-reads.Asked,
+  lead-of-reads.Learnt,
+  anchor-in-year-reads.Asked,
+  anchor-in-year-reads.Learnt,
+  below t,
+  reads.Post,
+  act-reads.Asked,
+  act-reads.Learnt,
+)
+
+module _ (t : ℕ) where
+  returns : lts.Need-returns (callees t) (at t) reads.Post
+  returns c = plain-told _ _ _ (c .before .before .before .lead-of .ensures) (c .before .enum-told .given .1) _ (c .anchor-in-year .ensures)
+
+  -- the wrapper that the phrase begins with
+  begins : (c : lts.After-known-told (callees t) (at t) reads.Post)
+      → Told leadings lead Plain (c .before .before .before .before .before .args .phrase .now) (Wrapped (c .before .wrapper .given .0 .0) (c .before .wrapper .given .0 .1 .0))
+  begins c = rw (c .before .wrapper .given .1) at (c .before .before .before .lead-of .ensures)
+
+  -- what the rest behind it tells
+  tells : (c : lts.After-phrase-in-year (callees t) (at t) reads.Post)
+      → Told phrases (phraseDay (c .before .before .before .before .before .before .before .args .named)) (NoDay Form)
+      (drop (c .before .before .before .wrapper .given .0 .1 .0) (c .before .before .before .before .before .before .before .args .phrase .now)) (c .phrase-in-year .result)
+  tells c = rw (rest _ _) at (c .phrase-in-year .ensures)
+
+  returns-3 : lts.Need-returns-3 (callees t) (at t) reads.Post
+  returns-3 c =
+      let k = c .before .before .before .before in
+      let day = c .before .before .answer .given .1 in
+      rw (c .act .ensures) (wrapped-told _ _ _ (begins (k .before .before)) _ _ (rw day at (tells k)))
+
+  returns-2 : lts.Need-returns-2 (callees t) (at t) reads.Post
+  returns-2 c =
+      let k = c .before .before in
+      let refusal = c .enum-told2 .given .1 in
+      rw refusal (wrapped-told _ _ _ (begins (k .before .before)) _ _ (rw refusal at (tells k)))
+
+  fits : lts.Need-sub-phrase-in-year (callees t) (at t) reads.Post
+  fits c = shorter _ _ _ (begins c) .1
+
+  phrase-in-year-requires : lts.Need-phrase-in-year-requires (callees t) (at t) reads.Post
+  phrase-in-year-requires c κs =
+      let s = c .before .before .before .before .before .before .args .phrase .now in
+      let n = c .before .before .wrapper .given .0 .1 .0 in
+      let now : length s ≡ t = c .before .before .before .before .before .before .pre .0 in
+      let behind : length (drop n s) ≡ length s - n = length-drop n s in
+      (rw (rest n s) (omega (arith, shorter _ _ _ (begins (c .before)))), tt)
+
+  act-requires : lts.Need-act-requires (callees t) (at t) reads.Post
+  act-requires c κs = told-in-span _ _ _ (rw (c .before .answer .given .1) at (tells (c .before .before .before)))
+
+pub +phrase-in-year-spec : {M : Type 1} → statement M
++phrase-in-year-spec =
+    close μ-phrase-in-year
+    λ t. lts.spec (callees t) (at t) reads.Post
+    (λ c κs. search needs)
+    (λ c. search needs)
+    (λ c. search needs)
+    (λ c κs. search needs)
+    (returns t)
+    (fits t)
+    (fits t)
+    (λ c. search needs)
+    (phrase-in-year-requires t)
+    (λ c. search needs)
+    (λ c. search needs)
+    (returns-2 t)
+    (act-requires t)
+    (returns-3 t)

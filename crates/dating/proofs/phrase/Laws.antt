@@ -1,0 +1,127 @@
+-- Phrases: each has one reading, and a wrapper acts on what the rest tells.
+use mathlib.Core.Bool.{true}
+use mathlib.Core.List.{List, [], _∷_, _++_, append-assoc}
+use mathlib.Core.Path.{_≡_, refl, sym, _∙_, ap, ap₂}
+use Prim.Native.Nat.{ℕ, _≤_}
+use native.Mathlib.Omega.{arith}
+use lib.ListN.{length, drop, length-append}
+use lib.Seq.{append-snoc, drop-append-seam}
+use Rattle.calendar.proofs.date.Laws.{dated}
+use Rattle.calendar.proofs.refusal.Laws.{no-day}
+use Rattle.calendar.proofs.span.Laws.{within-span}
+use Rattle.church.proofs.feast.Laws.{feast-in-span}
+use Rattle.calendar.specs.Span.{inSpan}
+use Rattle.dating.proofs.Told.{OneReading}
+use Rattle.dating.proofs.anchor.Laws.{lacks-space, one-anchor}
+use Rattle.dating.proofs.text.Laws.{no-false, has-here}
+use Rattle.dating.proofs.wrapper.Laws.{one-wrapper}
+use Rattle.dating.specs.Anchor.{Anchor, feast, date, spellAnchor, GoodAnchor, anchors, anchorDay}
+use Rattle.dating.specs.Phrase.{Phrase, plain, wrapped, spellPhrase, GoodPhrase, phrases, phraseDay}
+use Rattle.dating.specs.Steps.{has, leadings, lead}
+use Rattle.dating.specs.Text.{bytes, space}
+use Rattle.dating.specs.Told.{Told, produced, unproduced}
+use Rattle.dating.specs.Wrapper.{weekdayWord, wrapperWords, GoodWrapper, moved, acted}
+use Rattle.calendar.specs.declared.refusal.Refusal.the-variants.{Form}
+use Rattle.calendar.specs.declared.span.DayAnswer.the-variants.{Day, NoDay}
+use Rattle.calendar.specs.declared.span.DayAnswer.{DayAnswer}
+use Rattle.calendar.specs.declared.style.Style.{Style}
+use Rattle.calendar.specs.declared.weekday.Side.the-variants.{After, Before}
+use Rattle.calendar.specs.declared.year.NamedYear.{NamedYear}
+use Rattle.dating.specs.declared.wrapper.Lead.the-variants.{Wrapped, Plain}
+use Rattle.dating.specs.declared.wrapper.Lead.{Lead}
+use Rattle.dating.specs.declared.wrapper.Wrapper.the-variants.{Eve, Morrow, Octave, First}
+use Rattle.dating.specs.declared.wrapper.Wrapper.{Wrapper}
+
+-- ---- a wrapper's words end in a space, so no feast word or date begins with them
+pub spaced : (w : Wrapper) → (x : List ℕ) × (wrapperWords w ≡ x ++ space ∷ [])
+spaced Eve = (bytes "eve of", refl)
+spaced Morrow = (bytes "morrow of", refl)
+spaced Octave = (bytes "octave of", refl)
+spaced (First After n) = (weekdayWord n ++ bytes " after", sym (append-assoc (weekdayWord n) (bytes " after") (space ∷ [])))
+spaced (First Before n) = (weekdayWord n ++ bytes " before", sym (append-assoc (weekdayWord n) (bytes " before") (space ∷ [])))
+
+no-anchor : {A : Type 0} (a : Anchor) (w : Wrapper) (t : List ℕ) → GoodAnchor a → spellAnchor a ≡ wrapperWords w ++ t → A
+no-anchor a w t g e =
+    let x = spaced w in
+    let f : spellAnchor a ≡ x .0 ++ space ∷ t = e ∙ rw (x .1) (append-snoc (x .0) space t) in
+    no-false (sym (ap (has space) f ∙ has-here space (x .0) t) ∙ lacks-space a g)
+
+-- ---- one reading
+pub one-phrase : OneReading phrases
+unfolding spellPhrase GoodPhrase
+one-phrase (plain a) (plain b) g h e = ap plain (one-anchor a b g h e)
+one-phrase (plain a) (wrapped w q) g h e = no-anchor a w (spellPhrase q) g e
+one-phrase (wrapped w p) (plain b) g h e = no-anchor b w (spellPhrase p) h (sym e)
+one-phrase (wrapped w p) (wrapped v q) g h e =
+    let same = one-wrapper w v (spellPhrase p) (spellPhrase q) (g .0) (h .0) e in
+    let rest = ap (drop (length (wrapperWords v))) (rw same at e) in
+    let f = sym (drop-append-seam (wrapperWords v) (spellPhrase p)) ∙ rest ∙ drop-append-seam (wrapperWords v) (spellPhrase q) in
+    ap₂ wrapped same (one-phrase p q (g .1) (h .1) f)
+
+-- ---- every day that a phrase tells lies in the span
+anchor-in-span : (t : NamedYear) (a : Anchor) (n : ℕ) → anchorDay t a ≡ Day n → inSpan (t .style) n ≡ true
+unfolding anchorDay
+anchor-in-span t (feast f) n e = feast-in-span t f n e
+anchor-in-span t (date d m) n e = dated (t .style) n (t .year) m d e .0
+
+acted-in-span : (s : Style) (w : Wrapper) (a : DayAnswer) (n : ℕ) → acted s w a ≡ Day n → inSpan s n ≡ true
+acted-in-span s w (Day m) n e = within-span s (moved w m) n e
+acted-in-span s w (NoDay x) n e = no-day x n e
+
+pub phrase-in-span : (t : NamedYear) (p : Phrase) (n : ℕ) → phraseDay t p ≡ Day n → inSpan (t .style) n ≡ true
+unfolding phraseDay
+phrase-in-span t (plain a) n e = anchor-in-span t a n e
+phrase-in-span t (wrapped w p) n e = acted-in-span (t .style) w (phraseDay t p) n e
+
+pub told-in-span : (t : NamedYear) (s : List ℕ) (n : ℕ) → Told phrases (phraseDay t) (NoDay Form) s (Day n) → inSpan (t .style) n ≡ true
+told-in-span t s n (produced p g e m) = phrase-in-span t p n (sym m)
+told-in-span t s n (unproduced none m) = no-day Form n (sym m)
+
+-- ---- what a phrase tells, by what it begins with
+module _ (s : List ℕ) (t : NamedYear) where
+  pub plain-told : (l : Lead) → Told leadings lead Plain s l → l ≡ Plain → (r : DayAnswer) → Told anchors (anchorDay t) (NoDay Form) s r
+      → Told phrases (phraseDay t) (NoDay Form) s r
+  unfolding spellPhrase GoodPhrase phraseDay
+  plain-told l (produced x g e m) z r told = let f : Wrapped (x .wrapper) (length (wrapperWords (x .wrapper))) ≡ Plain = sym m ∙ z in no-false cc
+  plain-told l (unproduced none m) z r (produced a g e f) = produced (plain a) g e f
+  plain-told l (unproduced none m) z r (unproduced n f) = unproduced (λ p g e. neither p g e) f
+    where
+      neither : (p : Phrase) → GoodPhrase p → spellPhrase p ≡ s → ⊥
+      neither (plain a) g e = n a g e
+      neither (wrapped w p) g e = none (record { wrapper = w; rest = spellPhrase p }) (g .0) e
+
+module _ (s : List ℕ) (w : Wrapper) (n : ℕ) (begins : Told leadings lead Plain s (Wrapped w n)) where
+  abbrev Leads : Type 0
+  Leads = (n ≡ length (wrapperWords w)) × GoodWrapper w × (wrapperWords w ++ drop n s ≡ s)
+
+  leads : Leads
+  leads = go begins
+    where
+      go : Told leadings lead Plain s (Wrapped w n) → Leads
+      go (unproduced none m) = no-false cc
+      go (produced x g e m) =
+          let v : w ≡ x .wrapper = cc in
+          let l : n ≡ length (wrapperWords (x .wrapper)) = cc in
+          let d : drop n s ≡ x .rest = rw (l, ← e) (drop-append-seam (wrapperWords (x .wrapper)) (x .rest)) in
+          (l ∙ ap (λ (y : Wrapper). length (wrapperWords y)) (sym v), rw v g, rw (v, d) e)
+
+  pub shorter : (1 ≤ n) × (n ≤ length s)
+  shorter =
+      let x = spaced w in
+      let long = ap length (x .1) ∙ length-append (x .0) (space ∷ []) in
+      let whole = sym (ap length (leads .2)) ∙ length-append (wrapperWords w) (drop n s) in
+      let count = leads .0 in
+      (omega arith, omega arith)
+
+  pub wrapped-told : (t : NamedYear) (r : DayAnswer) → Told phrases (phraseDay t) (NoDay Form) (drop n s) r → Told phrases (phraseDay t) (NoDay Form) s (acted (t .style) w r)
+  unfolding spellPhrase GoodPhrase phraseDay
+  wrapped-told t r (produced p g e m) = produced (wrapped w p) (leads .1, g) (rw e (leads .2)) (ap (acted (t .style) w) m)
+  wrapped-told t r (unproduced none m) = unproduced (λ p g e. neither p g e) (rw m)
+    where
+      neither : (p : Phrase) → GoodPhrase p → spellPhrase p ≡ s → ⊥
+      neither (plain a) g e = no-anchor a w (drop n s) g (e ∙ sym (leads .2))
+      neither (wrapped v p) g e =
+          let same = one-wrapper v w (spellPhrase p) (drop n s) (g .0) (leads .1) (e ∙ sym (leads .2)) in
+          let rest : spellPhrase p ≡ drop n s =
+          sym (drop-append-seam (wrapperWords w) (spellPhrase p)) ∙ rw (← leads .0) (ap (drop n) (rw same at e)) in
+          none p (g .1) rest

@@ -1,0 +1,41 @@
+-- Feast words and dates, on which the wrappers act.
+use mathlib.Core.List.{List, [], _∷_, _++_}
+use Prim.Native.Nat.{ℕ, _≤_}
+use Prim.Native.String.{String}
+use Rattle.calendar.specs.Date.{dayInYear}
+use Rattle.church.specs.Feast.{Feast, _is_, feastOf, feastInYear}
+use Rattle.dating.specs.Numeral.{numeral}
+use Rattle.dating.specs.Text.{bytes, point}
+use Rattle.dating.specs.Told.{Grammar}
+use Rattle.calendar.specs.declared.span.DayAnswer.{DayAnswer}
+use Rattle.calendar.specs.declared.year.NamedYear.{NamedYear}
+
+-- "A phrase is a feast word, or a date": a feast by its number, a date by its day and month
+pub data Anchor : Type 0 where
+  feast : ℕ → Anchor
+  date : (day month : ℕ) → Anchor
+
+abbrev pub wordOf : Feast → String
+wordOf (word is r) = word
+
+-- the word of the feast with the number f from 1 to 48
+abbrev pub feastWord : ℕ → List ℕ
+feastWord f = bytes (wordOf (feastOf f))
+
+-- "A date is a day .., a point, a month .., without leading zeros."
+unfoldable pub spellAnchor : Anchor → List ℕ
+spellAnchor (feast f) = feastWord f
+spellAnchor (date d m) = numeral d ++ point ∷ numeral m
+
+-- "a day 1 to 31, .. a month 1 to 12"
+unfoldable pub GoodAnchor : Anchor → Type 0
+GoodAnchor (feast f) = (1 ≤ f) × (f ≤ 48)
+GoodAnchor (date d m) = ((1 ≤ d) × (d ≤ 31)) × ((1 ≤ m) × (m ≤ 12))
+
+abbrev pub anchors : Grammar
+anchors = record { Tree = Anchor; Good = GoodAnchor; spell = spellAnchor }
+
+-- "The feast or date is taken in the named year."
+unfoldable pub anchorDay : NamedYear → Anchor → DayAnswer
+anchorDay t (feast f) = feastInYear t f
+anchorDay t (date d m) = dayInYear t m d

@@ -1,0 +1,10 @@
+-- The dating line: its grammar, as trees and how they are spelled, and their meaning. Nothing here reads. Words in quotes are the scope's.
+pub mod Text
+pub mod Told
+pub mod Numeral
+pub mod Wrapper
+pub mod Anchor
+pub mod Phrase
+pub mod Line
+pub mod Part
+pub mod Steps

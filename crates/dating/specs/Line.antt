@@ -1,0 +1,53 @@
+-- The dating line: a phrase, a year and a style letter.
+use mathlib.Core.Bool.{true, false}
+use mathlib.Core.List.{List, [], _∷_, _++_}
+use mathlib.Core.Path.{_≡_}
+use Prim.Native.Nat.{ℕ, _≤_}
+use lib.ListN.{length}
+use Rattle.calendar.specs.Range.{between}
+use Rattle.calendar.specs.Style.{styleLetter}
+use Rattle.dating.specs.Numeral.{numeral}
+use Rattle.dating.specs.Phrase.{Phrase, spellPhrase, GoodPhrase, phraseDay}
+use Rattle.dating.specs.Text.{space}
+use Rattle.dating.specs.Told.{Grammar, Told}
+use Rattle.calendar.specs.declared.refusal.Refusal.the-variants.{Length, Form}
+use Rattle.calendar.specs.declared.refusal.Refusal.{Refusal}
+use Rattle.calendar.specs.declared.span.DayAnswer.the-variants.{NoDay}
+use Rattle.calendar.specs.declared.span.DayAnswer.{DayAnswer}
+use Rattle.calendar.specs.declared.year.NamedYear.{NamedYear}
+
+-- a phrase in a named year
+pub record Line : Type 0 where
+  pub phrase : Phrase
+  pub named : NamedYear
+
+-- what stands behind the phrase: "a space, a year, a space, and J or G"
+abbrev pub ending : NamedYear → List ℕ
+ending t = space ∷ (numeral (t .year) ++ space ∷ styleLetter (t .style) ∷ [])
+
+-- "A year is 1 to 4 digits, the first not 0."
+abbrev pub GoodYear : NamedYear → Type 0
+GoodYear t = (1 ≤ t .year) × (t .year ≤ 9999)
+
+-- "A line is a phrase, a space, a year, a space, and J or G."
+unfoldable pub spellLine : Line → List ℕ
+spellLine l = spellPhrase (l .phrase) ++ ending (l .named)
+
+pub record GoodLine (l : Line) : Type 0 where
+  pub phrase : GoodPhrase (l .phrase)
+  pub year : GoodYear (l .named)
+
+abbrev pub lines : Grammar
+lines = record { Tree = Line; Good = GoodLine; spell = spellLine }
+
+unfoldable pub lineDay : Line → DayAnswer
+lineDay l = phraseDay (l .named) (l .phrase)
+
+-- r is what the bytes s tell: refused by 2 where s "has 0 or more than 120 bytes", and else the meaning of the line that is spelled s, or refused by 3 where "the grammar doesn't produce the line"
+pub data LineTold {R : Type 0} (meaning : Line → R) (refused : Refusal → R) (s : List ℕ) (r : R) : Type 0 where
+  unfit : between 1 (length s) 120 ≡ false → r ≡ refused Length → LineTold meaning refused s r
+  fit : between 1 (length s) 120 ≡ true → Told lines meaning (refused Form) s r → LineTold meaning refused s r
+
+-- the day of a dating line, or the refusal
+abbrev pub IsDayOfLine : List ℕ → DayAnswer → Type 0
+IsDayOfLine = LineTold lineDay NoDay

@@ -1,0 +1,19 @@
+-- Numerals.
+use mathlib.Core.Bool.{cond}
+use mathlib.Core.List.{List, [], _∷_, _++_}
+use Prim.Native.Char.{code}
+use Prim.Native.Nat.{ℕ, zero, suc, _+_, _/_, _%_}
+use lib.Dec.{ltb}
+
+-- the byte of a digit from 0 to 9
+abbrev pub digit : ℕ → ℕ
+digit n = code "0" + n
+
+-- a number in decimal "without leading zeros", of at most suc k digits
+unfoldable pub decimal : ℕ → ℕ → List ℕ
+decimal zero n = digit n ∷ []
+decimal (suc k) n = cond (ltb n 10) (digit n ∷ []) (decimal k (n / 10) ++ digit (n % 10) ∷ [])
+
+-- the numeral of a number from 1 to 9999: "1 to 4 digits, the first not 0"
+abbrev pub numeral : ℕ → List ℕ
+numeral n = decimal 3 n

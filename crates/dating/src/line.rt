@@ -1,0 +1,79 @@
+// The dating line, split from its end.
+use crate::numeral::number_of;
+use crate::phrase::phrase_in_year;
+use crate::text::behind_last;
+use calendar::refusal::Refusal;
+use calendar::span::DayAnswer;
+use calendar::style::Style;
+use calendar::style::StyleAnswer;
+use calendar::year::NamedYear;
+ghost use mathlib.Core.Path.{_≡_};
+ghost use mathlib.Core.List.{[], _∷_};
+ghost use Rattle.calendar.specs.declared.refusal.Refusal.the-variants.{Form};
+ghost use Rattle.calendar.specs.declared.style.StyleAnswer.the-variants.{Known, NoStyle};
+ghost use Rattle.dating.specs.Line.{IsDayOfLine};
+ghost use Rattle.dating.specs.Steps.{letters, endings, endAt};
+ghost use Rattle.dating.specs.Told.{Told};
+ghost use Rattle.dating.specs.declared.line.Ending.the-variants.{NoEnding};
+
+// The number of bytes before a line's year, and the year with its style, or none.
+pub(crate) enum Ending {
+    At(usize, NamedYear),
+    NoEnding,
+}
+
+// The style whose letter a byte is.
+fn style_of_letter(letter: u8) -> StyleAnswer
+    ensures { λ r. ⌜ Told letters Known (NoStyle Form) (letter ∷ []) r ⌝ }
+{
+    if letter == b'J' {
+        return StyleAnswer::Known(Style::Julian);
+    }
+    if letter == b'G' {
+        return StyleAnswer::Known(Style::Gregorian);
+    }
+    StyleAnswer::NoStyle(Refusal::Form)
+}
+
+// What stands behind the phrase of a line.
+pub(crate) fn ending_of(line: &[u8]) -> Ending
+    ensures { λ r. ⌜ Told endings endAt NoEnding (now (line .entry)) r ⌝ }
+{
+    let length = line.len();
+    if length < 2 {
+        return Ending::NoEnding;
+    }
+    if line[length - 2] != b' ' {
+        return Ending::NoEnding;
+    }
+    let StyleAnswer::Known(style) = style_of_letter(line[length - 1]) else {
+        return Ending::NoEnding;
+    };
+    let end = length - 2;
+    let front = &line[..end];
+    let start = behind_last(front, b' ');
+    if start == 0 {
+        return Ending::NoEnding;
+    }
+    let year = number_of(&front[start..], 9999);
+    if year == 0 {
+        return Ending::NoEnding;
+    }
+    Ending::At(start - 1, NamedYear { style, year })
+}
+
+// The day of a dating line: refused by 2, 3, 4, 5 or 6.
+pub fn day_of_line(line: &[u8]) -> DayAnswer
+    ensures { λ r. ⌜ IsDayOfLine (now (line .entry)) r ⌝ }
+{
+    if line.len() == 0 {
+        return DayAnswer::NoDay(Refusal::Length);
+    }
+    if line.len() > 120 {
+        return DayAnswer::NoDay(Refusal::Length);
+    }
+    let Ending::At(length, named) = ending_of(line) else {
+        return DayAnswer::NoDay(Refusal::Form);
+    };
+    phrase_in_year(&line[..length], named)
+}

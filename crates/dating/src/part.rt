@@ -1,0 +1,41 @@
+// The part of the line that is the feast word or date, for the highlight.
+use crate::line::Ending;
+use crate::line::day_of_line;
+use crate::line::ending_of;
+use crate::text::behind_last;
+use calendar::span::DayAnswer;
+ghost use mathlib.Core.Path.{_≡_};
+ghost use Rattle.dating.specs.Line.{LineTold};
+ghost use Rattle.dating.specs.Part.{linePart, emptyPart, placeOf, PartOf};
+
+// Where a part of a line begins and where it ends.
+pub struct Place {
+    pub start: usize,
+    pub end: usize,
+}
+
+// The place of the part; for a refused line the line's start.
+pub fn place_of_part(line: &[u8]) -> Place
+    ensures { λ r. ⌜ LineTold (λ l. placeOf (linePart l)) (λ x. placeOf emptyPart) (now (line .entry)) r ⌝ }
+{
+    let DayAnswer::Day(_) = day_of_line(line) else {
+        return Place { start: 0, end: 0 };
+    };
+    let Ending::At(end, _) = ending_of(line) else {
+        return Place { start: 0, end: 0 };
+    };
+    Place {
+        start: behind_last(&line[..end], b' '),
+        end,
+    }
+}
+
+// The part itself; for a refused line the empty part at the line's start.
+pub fn part_of_line<'a>(line: &'a [u8]) -> &'a [u8]
+    ensures { λ r. ⌜ PartOf (line .entry) r ⌝ }
+{
+    let place = place_of_part(line);
+    let start = place.start;
+    let end = place.end;
+    &line[start..end]
+}

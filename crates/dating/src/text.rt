@@ -1,0 +1,34 @@
+// Bytes and words.
+ghost use mathlib.Core.Path.{_≡_};
+ghost use Rattle.dating.specs.Steps.{starts, BehindLast};
+
+// Whether a word stands at the start.
+pub(crate) fn starts_with(text: &[u8], word: &[u8]) -> bool
+    ensures { λ r. ⌜ r ≡ starts (now (word .entry)) (now (text .entry)) ⌝ }
+{
+    if text.len() < word.len() {
+        return false;
+    }
+    let mut i = 0;
+    while i < word.len() {
+        if text[i] != word[i] {
+            return false;
+        }
+        i += 1;
+    }
+    true
+}
+
+// The place behind the last such byte, or the start where there is none.
+pub(crate) fn behind_last(text: &[u8], byte: u8) -> usize
+    ensures { λ r. ⌜ BehindLast byte (now (text .entry)) r ⌝ }
+{
+    let mut i = text.len();
+    while i > 0 {
+        if text[i - 1] == byte {
+            return i;
+        }
+        i -= 1;
+    }
+    0
+}

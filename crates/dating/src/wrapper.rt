@@ -1,0 +1,157 @@
+// Wrappers: recognised by three bytes and one comparison, and how each moves a day.
+use crate::text::starts_with;
+use calendar::span::DayAnswer;
+use calendar::span::day_within;
+use calendar::style::Style;
+use calendar::weekday::Side;
+use calendar::weekday::first_weekday;
+ghost use mathlib.Core.Path.{_≡_};
+ghost use mathlib.Core.Bool.{true};
+ghost use Prim.Native.Nat.{_+_, _*_, _%_};
+ghost use Rattle.calendar.specs.Span.{inSpan};
+ghost use Rattle.calendar.specs.declared.span.DayAnswer.the-variants.{Day};
+ghost use Rattle.dating.specs.Told.{Told};
+ghost use Rattle.dating.specs.Steps.{starts, Guess, leadings, lead, wrapperOf};
+ghost use Rattle.dating.specs.Wrapper.{wrapperWords, acted};
+ghost use Rattle.dating.specs.declared.wrapper.Lead.the-variants.{Plain};
+
+// What stands before a phrase and moves its day.
+pub(crate) enum Wrapper {
+    Eve,
+    Morrow,
+    Octave,
+    // The first such weekday on a side.
+    First(Side, u64),
+}
+
+// The wrapper at the start of a phrase and the length of its words, or none.
+pub(crate) enum Lead {
+    Wrapped(Wrapper, usize),
+    Plain,
+}
+
+// The number of the wrapper whose words fall into a slot; 0 where none do.
+const WRAPPER_AT: [usize; 32] = [
+    3,
+    0,
+    0,
+    6,
+    13,
+    2,
+    0,
+    0,
+    0,
+    7,
+    14,
+    9,
+    16,
+    0,
+    0,
+    0,
+    0,
+    1,
+    0,
+    0,
+    0,
+    8,
+    15,
+    4,
+    11,
+    0,
+    0,
+    10,
+    17,
+    5,
+    12,
+    0,
+];
+
+// Where the words of the wrappers begin among all, in the order of their numbers, and where one more would.
+const WORDS_AT: [usize; 18] = [
+    0,
+    8,
+    19,
+    30,
+    41,
+    52,
+    63,
+    74,
+    85,
+    96,
+    107,
+    119,
+    131,
+    143,
+    155,
+    167,
+    179,
+    191,
+];
+
+// The slot of three bytes; no two wrappers share one.
+fn slot(first: u8, second: u8, fifth: u8) -> usize
+    ensures { λ r. ⌜ r ≡ (2 * first + 4 * second + fifth) % 32 ⌝ }
+{
+    (2 * first as usize + 4 * second as usize + fifth as usize) % 32
+}
+
+// The number of the one wrapper that a phrase may begin with, or 0.
+fn wrapper_guess(phrase: &[u8]) -> usize
+    ensures { λ r. ⌜ Guess 17 (λ n. starts (wrapperWords (wrapperOf n)) (now (phrase .entry)) ≡ true) r ⌝ }
+{
+    if phrase.len() < 5 {
+        return 0;
+    }
+    let i = slot(phrase[0], phrase[1], phrase[4]);
+    WRAPPER_AT[i]
+}
+
+// The wrappers in the order of their numbers, from 1 to 17.
+fn wrapper_of(number: usize) -> Wrapper
+    ensures { λ r. ⌜ r ≡ wrapperOf number ⌝ }
+{
+    if number < 2 {
+        return Wrapper::Eve;
+    }
+    if number < 3 {
+        return Wrapper::Morrow;
+    }
+    if number < 4 {
+        return Wrapper::Octave;
+    }
+    if number < 11 {
+        return Wrapper::First(Side::After, (number - 3) as u64);
+    }
+    Wrapper::First(Side::Before, (number - 10) as u64)
+}
+
+// The wrapper that a phrase begins with.
+pub(crate) fn lead_of(phrase: &[u8]) -> Lead
+    ensures { λ r. ⌜ Told leadings lead Plain (now (phrase .entry)) r ⌝ }
+{
+    let number = wrapper_guess(phrase);
+    if number == 0 {
+        return Lead::Plain;
+    }
+    let words: &[u8] =
+        b"eve of ,morrow of ,octave of ,mon after ,tue after ,wed after ,thu after ,fri after ,sat after ,sun after ,mon before ,tue before ,wed before ,thu before ,fri before ,sat before ,sun before ";
+    let start = WORDS_AT[number - 1];
+    let end = WORDS_AT[number] - 1;
+    if !starts_with(phrase, &words[start..end]) {
+        return Lead::Plain;
+    }
+    Lead::Wrapped(wrapper_of(number), end - start)
+}
+
+// The day that a wrapper makes of a day of the span.
+pub(crate) fn act(wrapper: Wrapper, style: Style, day: u32) -> DayAnswer
+    requires { ⌜ inSpan style day ≡ true ⌝ }
+    ensures { λ r. ⌜ r ≡ acted style wrapper (Day day) ⌝ }
+{
+    match wrapper {
+        Wrapper::Eve => day_within(style, day as u64 - 1),
+        Wrapper::Morrow => day_within(style, day as u64 + 1),
+        Wrapper::Octave => day_within(style, day as u64 + 7),
+        Wrapper::First(side, weekday) => day_within(style, first_weekday(side, weekday, day)),
+    }
+}
