@@ -12,60 +12,67 @@ const WED: i128 = 3;
 const THU: i128 = 4;
 const FRI: i128 = 5;
 
-/// Weeks from Easter week, and the weekday from that week's Sunday on.
-const MOVING: [(i128, i128); 23] = [
-    (-9, SUN), // septuagesima
-    (-8, SUN), // sexagesima
-    (-7, SUN), // estomihi
-    (-7, WED), // ashes
-    (-6, SUN), // invocavit
-    (-5, SUN), // reminiscere
-    (-4, SUN), // oculi
-    (-3, SUN), // laetare
-    (-2, SUN), // judica
-    (-1, SUN), // palms
-    (-1, THU), // cena
-    (-1, FRI), // parasceve
-    (0, SUN),  // easter
-    (1, SUN),  // quasimodo
-    (2, SUN),  // misericordia
-    (3, SUN),  // jubilate
-    (4, SUN),  // cantate
-    (5, SUN),  // rogate
-    (5, THU),  // ascension
-    (6, SUN),  // exaudi
-    (7, SUN),  // pentecost
-    (8, SUN),  // trinity
-    (8, THU),  // corpus
+/// Word, weeks from Easter week, and the weekday from that week's Sunday on.
+const MOVING: [(&str, i128, i128); 23] = [
+    ("septuagesima", -9, SUN),
+    ("sexagesima", -8, SUN),
+    ("estomihi", -7, SUN),
+    ("ashes", -7, WED),
+    ("invocavit", -6, SUN),
+    ("reminiscere", -5, SUN),
+    ("oculi", -4, SUN),
+    ("laetare", -3, SUN),
+    ("judica", -2, SUN),
+    ("palms", -1, SUN),
+    ("cena", -1, THU),
+    ("parasceve", -1, FRI),
+    ("easter", 0, SUN),
+    ("quasimodo", 1, SUN),
+    ("misericordia", 2, SUN),
+    ("jubilate", 3, SUN),
+    ("cantate", 4, SUN),
+    ("rogate", 5, SUN),
+    ("ascension", 5, THU),
+    ("exaudi", 6, SUN),
+    ("pentecost", 7, SUN),
+    ("trinity", 8, SUN),
+    ("corpus", 8, THU),
 ];
 
-/// Month and day.
-const FIXED: [(i128, i128); 24] = [
-    (1, 1),   // circumcision
-    (1, 6),   // epiphany
-    (2, 2),   // candlemas
-    (2, 24),  // matthias
-    (3, 25),  // annunciation
-    (4, 25),  // mark
-    (5, 1),   // philip
-    (6, 24),  // baptist
-    (6, 29),  // peter
-    (7, 22),  // magdalene
-    (7, 25),  // james
-    (8, 10),  // laurence
-    (8, 15),  // assumption
-    (8, 24),  // bartholomew
-    (9, 21),  // matthew
-    (9, 29),  // michael
-    (10, 18), // luke
-    (10, 28), // simon
-    (11, 1),  // saints
-    (11, 11), // martin
-    (11, 30), // andrew
-    (12, 6),  // nicholas
-    (12, 21), // thomas
-    (12, 25), // christmas
+/// Word, month and day.
+const FIXED: [(&str, i128, i128); 24] = [
+    ("circumcision", 1, 1),
+    ("epiphany", 1, 6),
+    ("candlemas", 2, 2),
+    ("matthias", 2, 24),
+    ("annunciation", 3, 25),
+    ("mark", 4, 25),
+    ("philip", 5, 1),
+    ("baptist", 6, 24),
+    ("peter", 6, 29),
+    ("magdalene", 7, 22),
+    ("james", 7, 25),
+    ("laurence", 8, 10),
+    ("assumption", 8, 15),
+    ("bartholomew", 8, 24),
+    ("matthew", 9, 21),
+    ("michael", 9, 29),
+    ("luke", 10, 18),
+    ("simon", 10, 28),
+    ("saints", 11, 1),
+    ("martin", 11, 11),
+    ("andrew", 11, 30),
+    ("nicholas", 12, 6),
+    ("thomas", 12, 21),
+    ("christmas", 12, 25),
 ];
+
+/// The 48 feast words in the order of the feast numbers.
+pub fn words() -> impl Iterator<Item = &'static str> {
+    let moving = MOVING.iter().map(|&(word, ..)| word);
+    let fixed = FIXED.iter().map(|&(word, ..)| word);
+    moving.chain(fixed).chain(std::iter::once("advent"))
+}
 
 /// The first Sunday of Advent.
 fn advent(style: Style, year: i128) -> i128 {
@@ -83,12 +90,12 @@ pub fn day_of_feast(number: i128, feast: i128, year: i128) -> Answer<i128> {
     // A year is served where its Christmas has a day.
     fixed(12, 25)?;
     let place = feast as usize - 1;
-    if let Some((week, weekday)) = MOVING.get(place) {
+    if let Some((_, week, weekday)) = MOVING.get(place) {
         let unserved = style == Style::G && year == 1582;
         return if unserved { Err(4) } else { in_span(style, easter(style, year) + 7 * week + weekday) };
     }
     match FIXED.get(place - MOVING.len()) {
-        Some(&(month, day)) => fixed(month, day),
+        Some(&(_, month, day)) => fixed(month, day),
         None => in_span(style, advent(style, year)),
     }
 }

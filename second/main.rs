@@ -2,8 +2,10 @@
 //! It takes nothing from the library's text; its formulas are those that each module names.
 
 mod cases;
+mod corpus;
 mod days;
 mod feasts;
+mod lines;
 mod outside;
 mod sheets;
 mod tables;
@@ -16,7 +18,9 @@ usage: second cases < LINES             compares lines 'CALL NUMBERS: ANSWER' wi
        second answers < CALLS           prints such lines for calls 'CALL NUMBERS'
        second years                     prints the call 'year STYLE YEAR' for every year
        second survey < LINES            compares the lines of all those calls
-       second outside FILE.. < LINES    compares lines of such calls with printed tables";
+       second outside FILE.. < LINES    compares lines of such calls with printed tables
+       second lines < LINES             prints 'NUMBER START LENGTH' for each dating line
+       second corpus                    prints dating lines, good and bad";
 
 fn main() -> ExitCode {
     let words: Vec<String> = std::env::args().skip(1).collect();
@@ -27,6 +31,8 @@ fn main() -> ExitCode {
         ["years"] => years::print(),
         ["survey"] => years::compare(lines),
         ["outside", ref files @ ..] if !files.is_empty() => outside::compare(files, lines),
+        ["lines"] => lines::answer(lines),
+        ["corpus"] => corpus::print(),
         _ => {
             eprintln!("{USAGE}");
             ExitCode::from(2)
