@@ -1,0 +1,144 @@
+/*
+ * Qashmelvit tells the day that a dating line of an old letter names, such as "tue after quasimodo 1587 G", in the Julian or in the
+ * Gregorian style. Each call has one answer for every input, keeps nothing between calls, and changes no byte that it is lent.
+ *
+ * A day is a Julian Day Number. A style is a number, and serves the days of its span:
+ *
+ *     1  J, Julian      1 January 1 (1721424) to 31 December 9999 (5373557)
+ *     2  G, Gregorian   15 October 1582 (2299161) to 31 December 9999 (5373484)
+ *
+ * A call that answers a day answers the day or the number of a refusal, the lowest that holds. No day is below 1721424, so that a
+ * number below that is a refusal:
+ *
+ *     uint32_t answer = qv_line(line, length);
+ *     if (answer < QV_FIRST_DAY) refused(answer); else found(answer);
+ *
+ * A dating line is lower-case ASCII but for the style letter, has one space between its parts, and has neither a line feed nor a zero
+ * byte at its end:
+ *
+ *     line      phrase year style         such as "eve of easter 1225 J"
+ *     phrase    a feast word, or a date, or a wrapper before a phrase
+ *     wrapper   eve of | morrow of | octave of | weekday after | weekday before
+ *     weekday   mon | tue | wed | thu | fri | sat | sun
+ *     date      day.month                 1 to 31 and 1 to 12, without leading zeros
+ *     year      1 to 4 digits, the first not 0
+ *     style     J | G
+ *
+ * The feast or date is taken in the named year; then each wrapper acts, the innermost first. Eve is one day earlier, morrow one later,
+ * octave seven later; after is the first such weekday strictly later, before strictly earlier. Every day on the way must lie in the
+ * span; the last may fall in another year than the one named.
+ *
+ * Feast words with their numbers, and with their days from Easter or their day.month:
+ *
+ *      1 septuagesima -63    13 easter         0    25 epiphany      6.1    37 bartholomew 24.8
+ *      2 sexagesima   -56    14 quasimodo      7    26 candlemas     2.2    38 matthew     21.9
+ *      3 estomihi     -49    15 misericordia  14    27 matthias     24.2    39 michael     29.9
+ *      4 ashes        -46    16 jubilate      21    28 annunciation 25.3    40 luke        18.10
+ *      5 invocavit    -42    17 cantate       28    29 mark         25.4    41 simon       28.10
+ *      6 reminiscere  -35    18 rogate        35    30 philip        1.5    42 saints       1.11
+ *      7 oculi        -28    19 ascension     39    31 baptist      24.6    43 martin      11.11
+ *      8 laetare      -21    20 exaudi        42    32 peter        29.6    44 andrew      30.11
+ *      9 judica       -14    21 pentecost     49    33 magdalene    22.7    45 nicholas     6.12
+ *     10 palms         -7    22 trinity       56    34 james        25.7    46 thomas      21.12
+ *     11 cena          -3    23 corpus        60    35 laurence     10.8    47 christmas   25.12
+ *     12 parasceve     -2    24 circumcision 1.1    36 assumption   15.8    48 advent
+ *
+ * Advent is the Sunday from 27 November to 3 December.
+ */
+#ifndef QASHMELVIT_H
+#define QASHMELVIT_H
+
+#include <stddef.h>
+#include <stdint.h>
+
+#ifdef __cplusplus
+extern "C" {
+#endif
+
+/* The styles. */
+#define QV_JULIAN 1
+#define QV_GREGORIAN 2
+
+/* The refusals, in the order of checking. */
+#define QV_NAME 1   /* no such style or feast number */
+#define QV_LENGTH 2 /* a dating line of 0 or of more than 120 bytes */
+#define QV_FORM 3   /* no dating line by the grammar */
+#define QV_YEAR 4   /* J outside 1 to 9999, G outside 1582 to 9999, or G 1582 for a feast hung on Easter */
+#define QV_DATE 5   /* no such month, or no such day in that month of that year */
+#define QV_SPAN 6   /* a day outside the style's span */
+
+/* The first day of all: a number below it that stands for a day is a refusal. */
+#define QV_FIRST_DAY 1721424
+
+/*
+ * The day that the dating line names, or the refusal: QV_LENGTH, QV_FORM, QV_YEAR, QV_DATE or QV_SPAN, in this order.
+ * The line is the length bytes from line on; a length of 0 goes with any pointer, NULL too. No byte is changed.
+ * Example: "tue after quasimodo 1587 G", of 26 bytes, answers 2300796; "29.2 1900 G" answers 5.
+ */
+uint32_t qv_line(const uint8_t *line, size_t length);
+
+/*
+ * Where in the line its feast word or date starts, in bytes from the line's first; 0 for a line that qv_line refuses.
+ * A feast word or date at the line's head starts at 0 too, so that qv_line or the part's length tells whether there is one.
+ * A length of 0 goes with any pointer, NULL too. No byte is changed.
+ * Example: "tue after quasimodo 1587 G" answers 10.
+ */
+size_t qv_part_start(const uint8_t *line, size_t length);
+
+/*
+ * How many bytes the line's feast word or date has; 0 for a line that qv_line refuses, and for no other.
+ * The start and this length together are never more than the line's length.
+ * A length of 0 goes with any pointer, NULL too. No byte is changed.
+ * Example: "tue after quasimodo 1587 G" answers 9, the bytes of "quasimodo".
+ */
+size_t qv_part_length(const uint8_t *line, size_t length);
+
+/*
+ * The day of the feast with this number in the year, or the refusal: QV_NAME, QV_YEAR or QV_SPAN, in this order.
+ * Every number may be given.
+ * Example: (1, 13, 1225), Easter 1225 J, answers 2168578; (2, 13, 1582) answers 4, and (2, 25, 1582), an epiphany, 6.
+ */
+uint32_t qv_feast(uint64_t style, uint64_t feast, uint64_t year);
+
+/*
+ * The day of the date, or the refusal: QV_NAME, QV_YEAR, QV_DATE or QV_SPAN, in this order.
+ * Every number may be given.
+ * Example: (2, 1582, 10, 15) answers 2299161; (2, 1582, 10, 14) answers 6, and (2, 1582, 2, 29) 5.
+ */
+uint32_t qv_day(uint64_t style, uint64_t year, uint64_t month, uint64_t day);
+
+/*
+ * Why the style has no weekday for the day: QV_NAME or QV_SPAN, in this order, or 0 where it has one.
+ * Every number may be given.
+ * Example: (1, 2415092) answers 0; (2, 2299160) answers 6.
+ */
+uint32_t qv_weekday_refusal(uint64_t style, uint64_t day);
+
+/*
+ * The weekday of a day of the style's span, 1 for Monday to 7 for Sunday; 0 where qv_weekday_refusal refuses.
+ * Every number may be given.
+ * Example: (1, 2415092), 29 February 1900 J, answers 2; (2, 2299160) answers 0.
+ */
+uint32_t qv_weekday(uint64_t style, uint64_t day);
+
+/*
+ * Why there is no distance from the first date to the second: the first date's refusal (QV_NAME, QV_YEAR, QV_DATE or QV_SPAN, in this
+ * order); else the second date's, in the same order; 0 where there is a distance. Every number may be given.
+ * Example: (1, 1582, 10, 5, 2, 1582, 10, 15) answers 0; (2, 1582, 10, 14, 2, 1581, 1, 1) answers 6, the first date's.
+ */
+uint32_t qv_distance_refusal(uint64_t style1, uint64_t year1, uint64_t month1, uint64_t day1,
+                             uint64_t style2, uint64_t year2, uint64_t month2, uint64_t day2);
+
+/*
+ * The second date's day less the first's, from -3652133 to 3652133; 0 where qv_distance_refusal refuses.
+ * Where that does not refuse, 0 is a distance: both dates are the same day. Every number may be given.
+ * Example: (1, 1582, 10, 5, 2, 1582, 10, 15) answers 0; (2, 2000, 3, 1, 2, 2000, 2, 28) answers -2.
+ */
+int32_t qv_distance(uint64_t style1, uint64_t year1, uint64_t month1, uint64_t day1,
+                    uint64_t style2, uint64_t year2, uint64_t month2, uint64_t day2);
+
+#ifdef __cplusplus
+}
+#endif
+
+#endif
