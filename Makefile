@@ -5,6 +5,7 @@
 check: kit
 	rt fmt --check
 	tests/second
+	tests/c/run
 	rt ci
 
 # The worked calls with their answers, from the proved library.
