@@ -2,3 +2,5 @@
 mod Tests
 mod Vocabulary
 pub mod Told
+pub mod Claims
+pub mod Known

@@ -217,6 +217,18 @@ pub feast-in-span : (t : NamedYear) (f n : ℕ) → feastInYear t f ≡ Day n �
 unfolding feastInYear
 feast-in-span t f n e = rule-in-span t (rule f) n (passed (between 1 f 48) Name (ruleDay t (rule f)) n e .1)
 
+-- and its year is served
+rule-served : (t : NamedYear) (r : Rule) (n : ℕ) → ruleDay t r ≡ Day n → served (t .style) (t .year) ≡ true
+unfolding dayInYear
+rule-served t (before k) n e = easter-served (t .style) (t .year) (passed (hasEaster (t .style) (t .year)) Year _ n e .0)
+rule-served t (after k) n e = easter-served (t .style) (t .year) (passed (hasEaster (t .style) (t .year)) Year _ n e .0)
+rule-served t (on d m) n e = passed (served (t .style) (t .year)) Year _ n e .0
+rule-served t advent n e = passed (served (t .style) (t .year)) Year _ n e .0
+
+pub feast-served : (t : NamedYear) (f n : ℕ) → feastInYear t f ≡ Day n → served (t .style) (t .year) ≡ true
+unfolding feastInYear
+feast-served t f n e = rule-served t (rule f) n (passed (between 1 f 48) Name (ruleDay t (rule f)) n e .1)
+
 -- what a call for a feast can answer, as one number
 abbrev pub FeastNumber : ℕ → Type 0
 FeastNumber n = (n ≡ 1) ⊎ ((n ≡ 4) ⊎ ((n ≡ 6) ⊎ (1721424 ≤ n)))

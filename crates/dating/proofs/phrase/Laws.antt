@@ -1,5 +1,5 @@
 -- Phrases: each has one reading, and a wrapper acts on what the rest tells.
-use mathlib.Core.Bool.{true}
+use mathlib.Core.Bool.{Bool, true, false}
 use mathlib.Core.List.{List, [], _∷_, _++_, append-assoc}
 use mathlib.Core.Path.{_≡_, refl, sym, _∙_, ap, ap₂}
 use Prim.Native.Nat.{ℕ, _≤_}
@@ -7,10 +7,16 @@ use native.Mathlib.Omega.{arith}
 use lib.ListN.{length, drop, length-append}
 use lib.Seq.{append-snoc, drop-append-seam}
 use Rattle.calendar.proofs.date.Laws.{dated}
-use Rattle.calendar.proofs.refusal.Laws.{no-day}
+use Rattle.calendar.proofs.range.Laws.{in-range}
+use Rattle.calendar.proofs.refusal.Laws.{no-day, passed, passed-day}
 use Rattle.calendar.proofs.span.Laws.{within-span}
-use Rattle.church.proofs.feast.Laws.{feast-in-span}
-use Rattle.calendar.specs.Span.{inSpan}
+use Rattle.church.proofs.feast.Laws.{feast-in-span, feast-served}
+use Rattle.calendar.specs.Date.{isDate, dayInYear}
+use Rattle.calendar.specs.Refusal.{unless}
+use Rattle.calendar.specs.Span.{inSpan, within}
+use Rattle.calendar.specs.Year.{served}
+use Rattle.church.specs.Easter.{hasEaster}
+use Rattle.church.specs.Feast.{Rule, before, after, on, advent, rule, ruleDay, feastInYear}
 use Rattle.dating.proofs.Told.{OneReading}
 use Rattle.dating.proofs.anchor.Laws.{lacks-space, one-anchor}
 use Rattle.dating.proofs.text.Laws.{no-false, has-here}
@@ -21,7 +27,8 @@ use Rattle.dating.specs.Steps.{has, leadings, lead}
 use Rattle.dating.specs.Text.{bytes, space}
 use Rattle.dating.specs.Told.{Told, produced, unproduced}
 use Rattle.dating.specs.Wrapper.{weekdayWord, wrapperWords, GoodWrapper, moved, acted}
-use Rattle.calendar.specs.declared.refusal.Refusal.the-variants.{Form}
+use Rattle.calendar.specs.declared.refusal.Refusal.the-variants.{Name, Length, Form, Year, Date, Span}
+use Rattle.calendar.specs.declared.refusal.Refusal.{Refusal}
 use Rattle.calendar.specs.declared.span.DayAnswer.the-variants.{Day, NoDay}
 use Rattle.calendar.specs.declared.span.DayAnswer.{DayAnswer}
 use Rattle.calendar.specs.declared.style.Style.{Style}
@@ -76,6 +83,67 @@ phrase-in-span t (wrapped w p) n e = acted-in-span (t .style) w (phraseDay t p) 
 pub told-in-span : (t : NamedYear) (s : List ℕ) (n : ℕ) → Told phrases (phraseDay t) (NoDay Form) s (Day n) → inSpan (t .style) n ≡ true
 told-in-span t s n (produced p g e m) = phrase-in-span t p n (sym m)
 told-in-span t s n (unproduced none m) = no-day Form n (sym m)
+
+-- and its year is served
+anchor-served : (t : NamedYear) (a : Anchor) (n : ℕ) → anchorDay t a ≡ Day n → served (t .style) (t .year) ≡ true
+unfolding anchorDay dayInYear
+anchor-served t (feast f) n e = feast-served t f n e
+anchor-served t (date d m) n e = passed (served (t .style) (t .year)) Year _ n e .0
+
+pub behind-day : (s : Style) (w : Wrapper) (a : DayAnswer) (n : ℕ) → acted s w a ≡ Day n → (m : ℕ) × (a ≡ Day m) × (moved w m ≡ n)
+unfolding within
+behind-day s w (Day m) n e = (m, refl, passed-day (inSpan s (moved w m)) Span (moved w m) n e .1)
+behind-day s w (NoDay x) n e = no-day x n e
+
+pub phrase-served : (t : NamedYear) (p : Phrase) (n : ℕ) → phraseDay t p ≡ Day n → served (t .style) (t .year) ≡ true
+unfolding phraseDay
+phrase-served t (plain a) n e = anchor-served t a n e
+phrase-served t (wrapped w p) n e =
+    let m = behind-day (t .style) w (phraseDay t p) n e in
+    phrase-served t p (m .0) (m .1)
+
+-- ---- a good phrase is refused by 4, 5 or 6 alone
+abbrev pub later : DayAnswer → Bool
+later (Day n) = true
+later (NoDay Name) = false
+later (NoDay Length) = false
+later (NoDay Form) = false
+later (NoDay Year) = true
+later (NoDay Date) = true
+later (NoDay Span) = true
+
+later-unless : (b : Bool) (x : Refusal) (a : DayAnswer) → later (NoDay x) ≡ true → later a ≡ true → later (unless b (NoDay x) a) ≡ true
+later-unless true x a h k = k
+later-unless false x a h k = h
+
+later-within : (s : Style) (n : ℕ) → later (within s n) ≡ true
+unfolding within
+later-within s n = later-unless (inSpan s n) Span (Day n) refl refl
+
+later-date : (t : NamedYear) (m d : ℕ) → later (dayInYear t m d) ≡ true
+unfolding dayInYear
+later-date t m d =
+    later-unless (served (t .style) (t .year)) Year _ refl (later-unless (isDate (t .style) (t .year) m d) Date _ refl (later-within (t .style) _))
+
+later-rule : (t : NamedYear) (r : Rule) → later (ruleDay t r) ≡ true
+later-rule t (before k) = later-unless (hasEaster (t .style) (t .year)) Year _ refl (later-within (t .style) _)
+later-rule t (after k) = later-unless (hasEaster (t .style) (t .year)) Year _ refl (later-within (t .style) _)
+later-rule t (on d m) = later-date t m d
+later-rule t advent = later-unless (served (t .style) (t .year)) Year _ refl (later-within (t .style) _)
+
+later-anchor : (t : NamedYear) (a : Anchor) → GoodAnchor a → later (anchorDay t a) ≡ true
+unfolding anchorDay GoodAnchor feastInYear
+later-anchor t (feast f) g = rw (in-range 1 f 48 (g .0) (g .1)) (later-rule t (rule f))
+later-anchor t (date d m) g = later-date t m d
+
+later-acted : (s : Style) (w : Wrapper) (a : DayAnswer) → later a ≡ true → later (acted s w a) ≡ true
+later-acted s w (Day n) h = later-within s (moved w n)
+later-acted s w (NoDay x) h = h
+
+pub later-phrase : (t : NamedYear) (p : Phrase) → GoodPhrase p → later (phraseDay t p) ≡ true
+unfolding phraseDay GoodPhrase
+later-phrase t (plain a) g = later-anchor t a g
+later-phrase t (wrapped w p) g = later-acted (t .style) w (phraseDay t p) (later-phrase t p (g .1))
 
 -- ---- what a phrase tells, by what it begins with
 module _ (s : List ℕ) (t : NamedYear) where
