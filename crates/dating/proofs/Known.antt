@@ -1,4 +1,4 @@
--- Lines that the scope names, rows of one table, under one claim.
+-- The scope's lines that are to be proved, rows of one table, under one claim.
 use mathlib.Core.List.{List, [], _∷_}
 use mathlib.Core.Path.{_≡_, refl}
 use Prim.Native.Nat.{ℕ}
@@ -7,14 +7,13 @@ use native.Mathlib.Omega.{arith}
 use Rattle.calendar.proofs.Table.{All, none, _also_}
 use Rattle.calendar.specs.Date.{daysOfMonths, isDate, dayNumber, dayInYear}
 use Rattle.calendar.specs.Range.{between}
-use Rattle.calendar.specs.Refusal.{refusalNumber}
-use Rattle.calendar.specs.Span.{inSpan, within, dayOrRefusal}
+use Rattle.calendar.specs.Span.{inSpan, within}
 use Rattle.calendar.specs.Weekday.{weekday}
 use Rattle.calendar.specs.Year.{named, daysOfYears, newYear, served}
 use Rattle.dating.specs.Anchor.{date, spellAnchor, GoodAnchor, anchorDay}
-use Rattle.dating.specs.Line.{Line, spellLine, lineDay, LineTold, fit}
+use Rattle.dating.specs.Line.{spellLine, lineDay, fit, IsNumberOfLine}
 use Rattle.dating.specs.Numeral.{decimal}
-use Rattle.dating.specs.Phrase.{plain, wrapped, spellPhrase, GoodPhrase, phraseDay}
+use Rattle.dating.specs.Phrase.{plain, wrapped, spellPhrase, GoodPhrase, anchorOf, wrappersAct, phraseDay}
 use Rattle.dating.specs.Text.{bytes}
 use Rattle.dating.specs.Told.{produced}
 use Rattle.calendar.specs.declared.style.Style.the-variants.{Julian, Gregorian}
@@ -26,7 +25,7 @@ pub data Row : Type 0 where
   falls : (day on-weekday : ℕ) → Row
 
 abbrev pub Holds : Row → Type 0
-Holds (tells line n) = LineTold (λ l. dayOrRefusal (lineDay l)) refusalNumber (bytes line) n
+Holds (tells line n) = IsNumberOfLine (bytes line) n
 Holds (falls n w) = weekday n ≡ w
 
 abbrev pub table : List Row
@@ -41,7 +40,7 @@ table =
 
 -- Each row of the table holds.
 pub known : All Holds table
-unfolding between spellLine spellPhrase spellAnchor decimal GoodPhrase GoodAnchor lineDay phraseDay anchorDay dayInYear served isDate within inSpan dayNumber daysOfMonths newYear daysOfYears
+unfolding between spellLine spellPhrase spellAnchor decimal GoodPhrase GoodAnchor lineDay phraseDay wrappersAct anchorOf anchorDay dayInYear served isDate within inSpan dayNumber daysOfMonths newYear daysOfYears
 known =
     fit refl (produced (record { phrase = plain (date 29 2); named = named Julian 1900 }) (record { phrase = omega arith; year = omega arith }) refl refl)
     also refl

@@ -5,6 +5,8 @@ use mathlib.Core.Path.{_≡_}
 use Prim.Native.Nat.{ℕ, _≤_}
 use lib.ListN.{length}
 use Rattle.calendar.specs.Range.{between}
+use Rattle.calendar.specs.Refusal.{refusalNumber}
+use Rattle.calendar.specs.Span.{dayOrRefusal}
 use Rattle.calendar.specs.Style.{styleLetter}
 use Rattle.dating.specs.Numeral.{numeral}
 use Rattle.dating.specs.Phrase.{Phrase, spellPhrase, GoodPhrase, phraseDay}
@@ -48,6 +50,10 @@ pub data LineTold {R : Type 0} (meaning : Line → R) (refused : Refusal → R) 
   unfit : between 1 (length s) 120 ≡ false → r ≡ refused Length → LineTold meaning refused s r
   fit : between 1 (length s) 120 ≡ true → Told lines meaning (refused Form) s r → LineTold meaning refused s r
 
--- the day of a dating line, or the refusal
+-- r is the day of the line s, or the refusal
 abbrev pub IsDayOfLine : List ℕ → DayAnswer → Type 0
 IsDayOfLine = LineTold lineDay NoDay
+
+-- n is the one number of that answer
+abbrev pub IsNumberOfLine : List ℕ → ℕ → Type 0
+IsNumberOfLine = LineTold (λ l. dayOrRefusal (lineDay l)) refusalNumber

@@ -9,7 +9,7 @@ use lib.Dec.{ltb}
 abbrev pub digit : ℕ → ℕ
 digit n = code "0" + n
 
--- a number in decimal "without leading zeros", of at most suc k digits
+-- a number in decimal "without leading zeros", where suc k digits suffice
 unfoldable pub decimal : ℕ → ℕ → List ℕ
 decimal zero n = digit n ∷ []
 decimal (suc k) n = cond (ltb n 10) (digit n ∷ []) (decimal k (n / 10) ++ digit (n % 10) ∷ [])

@@ -4,9 +4,9 @@ use mathlib.Core.Path.{_≡_}
 use Prim.Native.Nat.{ℕ, _+_}
 use lib.ListN.{length}
 use denote.Ref.{RefT, ptr, now}
-use Rattle.dating.specs.Anchor.{Anchor, spellAnchor}
+use Rattle.dating.specs.Anchor.{spellAnchor}
 use Rattle.dating.specs.Line.{Line, lineDay, LineTold}
-use Rattle.dating.specs.Phrase.{Phrase, plain, wrapped}
+use Rattle.dating.specs.Phrase.{Phrase, plain, wrapped, anchorOf}
 use Rattle.dating.specs.Wrapper.{wrapperWords}
 use Rattle.calendar.specs.declared.span.DayAnswer.the-variants.{Day, NoDay}
 use Rattle.calendar.specs.declared.span.DayAnswer.{DayAnswer}
@@ -18,17 +18,13 @@ pub record Part : Type 0 where
   pub text : List ℕ
 
 -- how many bytes stand before the feast word or date
-unfoldable pub before : Phrase → ℕ
-before (plain a) = 0
-before (wrapped w p) = length (wrapperWords w) + before p
-
-unfoldable pub anchorOf : Phrase → Anchor
-anchorOf (plain a) = a
-anchorOf (wrapped w p) = anchorOf p
+unfoldable pub bytesBefore : Phrase → ℕ
+bytesBefore (plain a) = 0
+bytesBefore (wrapped w p) = length (wrapperWords w) + bytesBefore p
 
 -- "the part of the caller's line that is the feast word or date"
 abbrev pub anchorPart : Phrase → Part
-anchorPart p = record { start = before p; text = spellAnchor (anchorOf p) }
+anchorPart p = record { start = bytesBefore p; text = spellAnchor (anchorOf p) }
 
 -- "the empty part at the line's start"
 abbrev pub emptyPart : Part
@@ -50,7 +46,19 @@ IsPart = LineTold linePart (λ x. emptyPart)
 abbrev pub placeOf : Part → Place
 placeOf p = record { start = p .start; end = p .start + length (p .text) }
 
--- r is the part of the lent line x: the part's bytes, lying in the same block so many bytes behind where x begins
+-- r is the place of the part of the line s
+abbrev pub IsPlace : List ℕ → Place → Type 0
+IsPlace = LineTold (λ l. placeOf (linePart l)) (λ x. placeOf emptyPart)
+
+-- n is where the part of the line s begins; 0 for a refused line
+abbrev pub IsPartStart : List ℕ → ℕ → Type 0
+IsPartStart = LineTold (λ l. linePart l .start) (λ x. 0)
+
+-- n is how many bytes the part of the line s has; 0 for a refused line
+abbrev pub IsPartLength : List ℕ → ℕ → Type 0
+IsPartLength = LineTold (λ l. length (linePart l .text)) (λ x. 0)
+
+-- r is the part of the lent line x: it has the part's bytes, and lies in x's block as far behind x's start as the part in the line
 pub record PartOf (x r : RefT (List ℕ)) : Type 0 where
   pub part : Part
   pub is-part : IsPart (now x) part

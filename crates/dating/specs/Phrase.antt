@@ -5,6 +5,7 @@ use Rattle.dating.specs.Anchor.{Anchor, spellAnchor, GoodAnchor, anchorD
 use Rattle.dating.specs.Told.{Grammar}
 use Rattle.dating.specs.Wrapper.{wrapperWords, GoodWrapper, acted}
 use Rattle.calendar.specs.declared.span.DayAnswer.{DayAnswer}
+use Rattle.calendar.specs.declared.style.Style.{Style}
 use Rattle.calendar.specs.declared.year.NamedYear.{NamedYear}
 use Rattle.dating.specs.declared.wrapper.Wrapper.{Wrapper}
 
@@ -24,7 +25,16 @@ GoodPhrase (wrapped w p) = GoodWrapper w × GoodPhrase p
 abbrev pub phrases : Grammar
 phrases = record { Tree = Phrase; Good = GoodPhrase; spell = spellPhrase }
 
--- "Then each wrapper acts, the innermost first"
+-- the feast word or date behind all wrappers
+unfoldable pub anchorOf : Phrase → Anchor
+anchorOf (plain a) = a
+anchorOf (wrapped w p) = anchorOf p
+
+-- the wrappers of a phrase on an answer: "each wrapper acts, the innermost first"
+unfoldable pub wrappersAct : Style → Phrase → DayAnswer → DayAnswer
+wrappersAct s (plain a) r = r
+wrappersAct s (wrapped w p) r = acted s w (wrappersAct s p r)
+
+-- "The feast or date is taken in the named year. Then each wrapper acts"
 unfoldable pub phraseDay : NamedYear → Phrase → DayAnswer
-phraseDay t (plain a) = anchorDay t a
-phraseDay t (wrapped w p) = acted (t .style) w (phraseDay t p)
+phraseDay t p = wrappersAct (t .style) p (anchorDay t (anchorOf p))

@@ -26,14 +26,14 @@ abbrev pub sideWord : Side → List ℕ
 sideWord After = bytes " after "
 sideWord Before = bytes " before "
 
--- the words of a wrapper, with the space behind them
+-- the words of a wrapper, with the space behind them; First x w is the weekday w "after" or "before"
 abbrev pub wrapperWords : Wrapper → List ℕ
 wrapperWords Eve = bytes "eve of "
 wrapperWords Morrow = bytes "morrow of "
 wrapperWords Octave = bytes "octave of "
 wrapperWords (First x w) = weekdayWord w ++ sideWord x
 
--- the numbers that name a weekday
+-- a weekday's number lies from 1 to 7
 abbrev pub GoodWrapper : Wrapper → Type 0
 GoodWrapper Eve = Unit
 GoodWrapper Morrow = Unit
@@ -47,7 +47,11 @@ moved Morrow n = n + 1
 moved Octave n = n + 7
 moved (First x w) n = firstWeekday x w n
 
--- a wrapper acts on what the phrase behind it answers: "Every day on the way must lie in the span.", and a refusal is handed on
+-- "Callers take the answer apart and hand the refusal on with its number."
+abbrev pub andThen : DayAnswer → (ℕ → DayAnswer) → DayAnswer
+andThen (Day n) next = next n
+andThen (NoDay x) next = NoDay x
+
+-- a wrapper acts on what stands behind it: "Every day on the way must lie in the span."
 abbrev pub acted : Style → Wrapper → DayAnswer → DayAnswer
-acted s w (Day n) = within s (moved w n)
-acted s w (NoDay x) = NoDay x
+acted s w r = andThen r (λ n. within s (moved w n))

@@ -201,11 +201,11 @@ const WORD_AT: [usize; 49] = [
 ];
 
 // The slot of two bytes and a length; no two feast words share one.
-fn slot(second: u8, last_but_one: u8, length: usize) -> usize
-    requires { ⌜ length ≤ 12 ⌝ }
-    ensures { λ r. ⌜ r ≡ (6 * second + 7 * «last_but_one» + 9 * length) % 128 ⌝ }
+fn slot(second: u8, last_but_one: u8, count: usize) -> usize
+    requires { ⌜ count ≤ 12 ⌝ }
+    ensures { λ r. ⌜ r ≡ (6 * second + 7 * «last_but_one» + 9 * count) % 128 ⌝ }
 {
-    (6 * second as usize + 7 * last_but_one as usize + 9 * length) % 128
+    (6 * second as usize + 7 * last_but_one as usize + 9 * count) % 128
 }
 
 // The number of the one feast whose word it may be, or 0.

@@ -16,7 +16,7 @@ ghost use Rattle.dating.specs.Steps.{letters, endings, endAt};
 ghost use Rattle.dating.specs.Told.{Told};
 ghost use Rattle.dating.specs.declared.line.Ending.the-variants.{NoEnding};
 
-// The number of bytes before a line's year, and the year with its style, or none.
+// The length of a line's phrase, and the year with its style that stand behind it, or none.
 pub(crate) enum Ending {
     At(usize, NamedYear),
     NoEnding,

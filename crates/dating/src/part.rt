@@ -5,8 +5,7 @@ use crate::line::ending_of;
 use crate::text::behind_last;
 use calendar::span::DayAnswer;
 ghost use mathlib.Core.Path.{_≡_};
-ghost use Rattle.dating.specs.Line.{LineTold};
-ghost use Rattle.dating.specs.Part.{linePart, emptyPart, placeOf, PartOf};
+ghost use Rattle.dating.specs.Part.{IsPlace, PartOf};
 
 // Where a part of a line begins and where it ends.
 pub struct Place {
@@ -16,7 +15,7 @@ pub struct Place {
 
 // The place of the part; for a refused line the line's start.
 pub fn place_of_part(line: &[u8]) -> Place
-    ensures { λ r. ⌜ LineTold (λ l. placeOf (linePart l)) (λ x. placeOf emptyPart) (now (line .entry)) r ⌝ }
+    ensures { λ r. ⌜ IsPlace (now (line .entry)) r ⌝ }
 {
     let DayAnswer::Day(_) = day_of_line(line) else {
         return Place { start: 0, end: 0 };

@@ -1,5 +1,5 @@
-// The calls from C, and nothing else. Each takes every number and all bytes, and changes none of
-// them; its contract fixes the one number that it answers.
+// The calls from C, and nothing else. Each takes any numbers and any bytes and changes no byte; its
+// contract fixes the one number that it answers.
 use calendar::date::day_of_date;
 use calendar::distance::distance_of_dates;
 use calendar::distance::distance_or_zero;
@@ -13,20 +13,18 @@ use dating::line::day_of_line;
 use dating::part::part_of_line;
 use dating::part::place_of_part;
 ghost use mathlib.Core.Path.{_≡_};
-ghost use lib.ListN.{length};
 ghost use Rattle.calendar.specs.Date.{dayOfDate};
 ghost use Rattle.calendar.specs.Distance.{distanceOfDays, distanceRefusal, distanceOrZero};
-ghost use Rattle.calendar.specs.Refusal.{refusalNumber};
 ghost use Rattle.calendar.specs.Span.{dayOrRefusal};
 ghost use Rattle.calendar.specs.Weekday.{weekdayOfDay, weekdayRefusal, weekdayOrZero};
 ghost use Rattle.church.specs.Feast.{feastOfYear};
-ghost use Rattle.dating.specs.Line.{lineDay, LineTold};
-ghost use Rattle.dating.specs.Part.{linePart};
+ghost use Rattle.dating.specs.Line.{IsNumberOfLine};
+ghost use Rattle.dating.specs.Part.{IsPartStart, IsPartLength};
 
 // The day of a dating line, or the refusal: 2, 3, 4, 5 or 6.
 #[no_mangle]
 pub extern "C" fn qv_line(line: &[u8]) -> u32
-    ensures { λ r. ⌜ LineTold (λ l. dayOrRefusal (lineDay l)) refusalNumber (now (line .entry)) r ⌝ }
+    ensures { λ r. ⌜ IsNumberOfLine (now (line .entry)) r ⌝ }
 {
     day_or_refusal(day_of_line(line))
 }
@@ -34,7 +32,7 @@ pub extern "C" fn qv_line(line: &[u8]) -> u32
 // Where the feast word or date of a dating line begins; 0 for a refused line.
 #[no_mangle]
 pub extern "C" fn qv_part_start(line: &[u8]) -> usize
-    ensures { λ r. ⌜ LineTold (λ l. linePart l .start) (λ x. 0) (now (line .entry)) r ⌝ }
+    ensures { λ r. ⌜ IsPartStart (now (line .entry)) r ⌝ }
 {
     let place = place_of_part(line);
     place.start
@@ -43,7 +41,7 @@ pub extern "C" fn qv_part_start(line: &[u8]) -> usize
 // How many bytes the feast word or date of a dating line has; 0 for a refused line.
 #[no_mangle]
 pub extern "C" fn qv_part_length(line: &[u8]) -> usize
-    ensures { λ r. ⌜ LineTold (λ l. length (linePart l .text)) (λ x. 0) (now (line .entry)) r ⌝ }
+    ensures { λ r. ⌜ IsPartLength (now (line .entry)) r ⌝ }
 {
     part_of_line(line).len()
 }

@@ -4,7 +4,7 @@ use mathlib.Core.List.{List, [], _∷_, _++_, append-nil}
 use mathlib.Core.Path.{_≡_, refl, sym, _∙_, ap, ap₂}
 use Prim.Native.Nat.{ℕ, suc, _+_, _-_, _*_, _%_, _<_, _≤_}
 use native.Mathlib.Omega.{arith}
-use lib.ListN.{length, take, drop, getD}
+use lib.ListN.{length, take, drop, getD, length-append}
 use borrow.Author.Tests.{not-true}
 use Rattle.calendar.specs.Range.{between}
 use Rattle.dating.proofs.Tests.{tested}
@@ -96,6 +96,11 @@ lacks-space (feast f) g = feast-lacks-space f (g .0) (g .1)
 lacks-space (date d m) g =
     has-append space (numeral d) (point ∷ numeral m) (numeral-lacks space d (omega arith) (g .0 .0) (omega (arith, g)))
     (numeral-lacks space m (omega arith) (g .1 .0) (omega (arith, g)))
+
+pub anchor-some : (a : Anchor) → GoodAnchor a → 1 ≤ length (spellAnchor a)
+unfolding spellAnchor GoodAnchor
+anchor-some (feast f) g = omega (arith, its-length vocabulary sound f (g .0) (g .1))
+anchor-some (date d m) g = omega (arith, length-append (numeral d) (point ∷ numeral m))
 
 -- ---- one reading
 no-date : {A : Type 0} (f d m : ℕ) → 1 ≤ f → f ≤ 48 → feastWord f ≡ numeral d ++ point ∷ numeral m → A

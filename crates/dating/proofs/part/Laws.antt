@@ -10,14 +10,14 @@ use lib.Seq.{append-snoc, drop-at, take-append-seam, length-take-le}
 use denote.Ref.{RefT, ptr, now}
 use Rattle.calendar.proofs.refusal.Laws.{no-day}
 use Rattle.dating.proofs.Told.{one-told}
-use Rattle.dating.proofs.anchor.Laws.{lacks-space}
+use Rattle.dating.proofs.anchor.Laws.{lacks-space, anchor-some}
 use Rattle.dating.proofs.line.Laws.{TellsEnding, no-ending, ending-of, its-phrase, one-line, one-answer}
 use Rattle.dating.proofs.phrase.Laws.{spaced}
 use Rattle.dating.proofs.text.Laws.{no-false, has-here, cut, known-cut}
 use Rattle.dating.specs.Anchor.{Anchor, spellAnchor, GoodAnchor}
 use Rattle.dating.specs.Line.{Line, ending, spellLine, GoodLine, lines, lineDay, LineTold, unfit, fit, IsDayOfLine}
-use Rattle.dating.specs.Part.{Part, before, anchorOf, anchorPart, emptyPart, ifAccepted, linePart, IsPart, placeOf, PartOf}
-use Rattle.dating.specs.Phrase.{Phrase, plain, wrapped, spellPhrase, GoodPhrase}
+use Rattle.dating.specs.Part.{Part, bytesBefore, anchorPart, emptyPart, ifAccepted, linePart, IsPart, placeOf, IsPlace, PartOf}
+use Rattle.dating.specs.Phrase.{Phrase, plain, wrapped, spellPhrase, GoodPhrase, anchorOf}
 use Rattle.dating.specs.Steps.{has, BehindLast}
 use Rattle.dating.specs.Text.{space}
 use Rattle.dating.specs.Told.{Told, produced, unproduced}
@@ -41,8 +41,8 @@ unfolding leads anchorOf spellPhrase
 its-leads (plain a) = refl
 its-leads (wrapped w p) = append-assoc (wrapperWords w) (leads p) (spellAnchor (anchorOf p)) ∙ ap (λ (s : List ℕ). wrapperWords w ++ s) (its-leads p)
 
-leads-long : (p : Phrase) → length (leads p) ≡ before p
-unfolding leads before
+leads-long : (p : Phrase) → length (leads p) ≡ bytesBefore p
+unfolding leads bytesBefore
 leads-long (plain a) = refl
 leads-long (wrapped w p) = length-append (wrapperWords w) (leads p) ∙ ap (λ (n : ℕ). length (wrapperWords w) + n) (leads-long p)
 
@@ -60,8 +60,8 @@ leads-end w (wrapped v p) =
     (wrapperWords w ++ x .0, ap (λ (s : List ℕ). wrapperWords w ++ s) (x .1) ∙ sym (append-assoc (wrapperWords w) (x .0) (space ∷ [])))
 
 -- the feast word or date is the last word of its phrase
-pub last-word : (p : Phrase) (i : ℕ) → GoodPhrase p → BehindLast space (spellPhrase p) i → i ≡ before p
-unfolding spellPhrase anchorOf before GoodPhrase
+pub last-word : (p : Phrase) (i : ℕ) → GoodPhrase p → BehindLast space (spellPhrase p) i → i ≡ bytesBefore p
+unfolding spellPhrase anchorOf bytesBefore GoodPhrase
 last-word (plain a) i g b =
     elim (decLt 0 i) [
       | yes low ↦
@@ -78,13 +78,10 @@ last-word (wrapped w p) i g b =
     let long = sym (leads-long (wrapped w p)) ∙ ap length (x .1) ∙ length-append (x .0) (space ∷ []) in
     omega (arith, k .0)
 
-pub phrase-long : (p : Phrase) → length (spellPhrase p) ≡ before p + length (spellAnchor (anchorOf p))
+pub phrase-long : (p : Phrase) → length (spellPhrase p) ≡ bytesBefore p + length (spellAnchor (anchorOf p))
 phrase-long p = sym (ap length (its-leads p)) ∙ length-append (leads p) (spellAnchor (anchorOf p)) ∙ rw (leads-long p)
 
 -- ---- the place of the part
-abbrev pub IsPlace : List ℕ → Place → Type 0
-IsPlace s r = LineTold (λ l. placeOf (linePart l)) (λ x. placeOf emptyPart) s r
-
 module _ (s : List ℕ) where
   pub refused-place : (x : Refusal) → IsDayOfLine s (NoDay x) → IsPlace s (placeOf emptyPart)
   unfolding linePart
@@ -111,7 +108,7 @@ module _ (s : List ℕ) where
           let phrase = its-phrase s k t ends l g e .0 in
           let start = last-word p i (g .phrase) (rw (← phrase) at b) in
           let size = ap length phrase ∙ length-take-le k s (ending-of s k t ends .0) in
-          let stop : k ≡ before p + length (spellAnchor (anchorOf p)) = sym size ∙ phrase-long p in
+          let stop : k ≡ bytesBefore p + length (spellAnchor (anchorOf p)) = sym size ∙ phrase-long p in
           fit h (produced l g e (rw (← m) (λ j. record { start = start j; end = stop j })))
 
   -- the part whose place it is
@@ -134,7 +131,7 @@ module _ (s : List ℕ) where
       let size = sym (ap length whole) ∙ length-append (leads p) (a ++ ending (l .named)) in
       let rest = length-append a (ending (l .named)) in
       let long = leads-long p in
-      (omega arith, rw (← whole, drop-at (leads p) (a ++ ending (l .named)) (before p) long) (take-append-seam a (ending (l .named))))
+      (omega arith, rw (← whole, drop-at (leads p) (a ++ ending (l .named)) (bytesBefore p) long) (take-append-seam a (ending (l .named))))
 
   pub stands : (p : Part) → IsPart s p → Stands p
   unfolding linePart
@@ -171,6 +168,15 @@ lies-there x r q h bytes block offset =
       block = block;
       offset = offset ∙ ap (λ (o : Place). o .start + ptr x .1) (p .2);
     }
+
+-- the part of an accepted line is not empty
+pub some-bytes : (s : List ℕ) (n : ℕ) (p : Part) → IsDayOfLine s (Day n) → IsPart s p → 1 ≤ length (p .text)
+unfolding linePart
+some-bytes s n p (unfit h m) part = no-day Length n (sym m)
+some-bytes s n p (fit h (unproduced none m)) part = no-day Form n (sym m)
+some-bytes s n p (fit h (produced l g e m)) part =
+    let same : p ≡ anchorPart (l .phrase) = one-answer p (anchorPart (l .phrase)) part (fit h (produced l g e (rw (← m)))) in
+    rw same (anchor-some (anchorOf (l .phrase)) (anchor-good (l .phrase) (g .phrase)))
 
 -- two parts that the contract allows are one: the same bytes at the same place
 pub one-part : (x r q : RefT (List ℕ)) → PartOf x r → PartOf x q → (now r ≡ now q) × (ptr r ≡ ptr q)

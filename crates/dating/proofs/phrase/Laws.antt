@@ -22,7 +22,7 @@ use Rattle.dating.proofs.anchor.Laws.{lacks-space, one-anchor}
 use Rattle.dating.proofs.text.Laws.{no-false, has-here}
 use Rattle.dating.proofs.wrapper.Laws.{one-wrapper}
 use Rattle.dating.specs.Anchor.{Anchor, feast, date, spellAnchor, GoodAnchor, anchors, anchorDay}
-use Rattle.dating.specs.Phrase.{Phrase, plain, wrapped, spellPhrase, GoodPhrase, phrases, phraseDay}
+use Rattle.dating.specs.Phrase.{Phrase, plain, wrapped, spellPhrase, GoodPhrase, phrases, anchorOf, wrappersAct, phraseDay}
 use Rattle.dating.specs.Steps.{has, leadings, lead}
 use Rattle.dating.specs.Text.{bytes, space}
 use Rattle.dating.specs.Told.{Told, produced, unproduced}
@@ -76,7 +76,7 @@ acted-in-span s w (Day m) n e = within-span s (moved w m) n e
 acted-in-span s w (NoDay x) n e = no-day x n e
 
 pub phrase-in-span : (t : NamedYear) (p : Phrase) (n : ℕ) → phraseDay t p ≡ Day n → inSpan (t .style) n ≡ true
-unfolding phraseDay
+unfolding phraseDay wrappersAct anchorOf
 phrase-in-span t (plain a) n e = anchor-in-span t a n e
 phrase-in-span t (wrapped w p) n e = acted-in-span (t .style) w (phraseDay t p) n e
 
@@ -96,7 +96,7 @@ behind-day s w (Day m) n e = (m, refl, passed-day (inSpan s (moved w m)) Span (m
 behind-day s w (NoDay x) n e = no-day x n e
 
 pub phrase-served : (t : NamedYear) (p : Phrase) (n : ℕ) → phraseDay t p ≡ Day n → served (t .style) (t .year) ≡ true
-unfolding phraseDay
+unfolding phraseDay wrappersAct anchorOf
 phrase-served t (plain a) n e = anchor-served t a n e
 phrase-served t (wrapped w p) n e =
     let m = behind-day (t .style) w (phraseDay t p) n e in
@@ -141,7 +141,7 @@ later-acted s w (Day n) h = later-within s (moved w n)
 later-acted s w (NoDay x) h = h
 
 pub later-phrase : (t : NamedYear) (p : Phrase) → GoodPhrase p → later (phraseDay t p) ≡ true
-unfolding phraseDay GoodPhrase
+unfolding phraseDay wrappersAct anchorOf GoodPhrase
 later-phrase t (plain a) g = later-anchor t a g
 later-phrase t (wrapped w p) g = later-acted (t .style) w (phraseDay t p) (later-phrase t p (g .1))
 
@@ -149,7 +149,7 @@ later-phrase t (wrapped w p) g = later-acted (t .style) w (phraseDay t p) (later
 module _ (s : List ℕ) (t : NamedYear) where
   pub plain-told : (l : Lead) → Told leadings lead Plain s l → l ≡ Plain → (r : DayAnswer) → Told anchors (anchorDay t) (NoDay Form) s r
       → Told phrases (phraseDay t) (NoDay Form) s r
-  unfolding spellPhrase GoodPhrase phraseDay
+  unfolding spellPhrase GoodPhrase phraseDay wrappersAct anchorOf
   plain-told l (produced x g e m) z r told = let f : Wrapped (x .wrapper) (length (wrapperWords (x .wrapper))) ≡ Plain = sym m ∙ z in no-false cc
   plain-told l (unproduced none m) z r (produced a g e f) = produced (plain a) g e f
   plain-told l (unproduced none m) z r (unproduced n f) = unproduced (λ p g e. neither p g e) f
@@ -182,7 +182,7 @@ module _ (s : List ℕ) (w : Wrapper) (n : ℕ) (begins : Told leadings lead Pla
       (omega arith, omega arith)
 
   pub wrapped-told : (t : NamedYear) (r : DayAnswer) → Told phrases (phraseDay t) (NoDay Form) (drop n s) r → Told phrases (phraseDay t) (NoDay Form) s (acted (t .style) w r)
-  unfolding spellPhrase GoodPhrase phraseDay
+  unfolding spellPhrase GoodPhrase phraseDay wrappersAct anchorOf
   wrapped-told t r (produced p g e m) = produced (wrapped w p) (leads .1, g) (rw e (leads .2)) (ap (acted (t .style) w) m)
   wrapped-told t r (unproduced none m) = unproduced (λ p g e. neither p g e) (rw m)
     where
