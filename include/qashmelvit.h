@@ -13,8 +13,8 @@
  *     uint32_t answer = qv_line(line, length);
  *     if (answer < QV_FIRST_DAY) refused(answer); else found(answer);
  *
- * A dating line is lower-case ASCII but for the style letter, has one space between its parts, and has neither a line feed nor a zero
- * byte at its end:
+ * A dating line is lower-case ASCII but for the style letter, has one space between its parts and none at its ends, and no line feed or
+ * zero byte behind it:
  *
  *     line      phrase year style         such as "eve of easter 1225 J"
  *     phrase    a feast word, or a date, or a wrapper before a phrase
@@ -67,7 +67,7 @@ extern "C" {
 #define QV_DATE 5   /* no such month, or no such day in that month of that year */
 #define QV_SPAN 6   /* a day outside the style's span */
 
-/* The first day of all: a number below it that stands for a day is a refusal. */
+/* The first day of all: a call for a day that answers a smaller number refuses. */
 #define QV_FIRST_DAY 1721424
 
 /*
@@ -78,7 +78,7 @@ extern "C" {
 uint32_t qv_line(const uint8_t *line, size_t length);
 
 /*
- * Where in the line its feast word or date starts, in bytes from the line's first; 0 for a line that qv_line refuses.
+ * Where in the line, given as to qv_line, its feast word or date starts, in bytes from the line's first; 0 for a line that qv_line refuses.
  * A feast word or date at the line's head starts at 0 too, so that qv_line or the part's length tells whether there is one.
  * A length of 0 goes with any pointer, NULL too. No byte is changed.
  * Example: "tue after quasimodo 1587 G" answers 10.
@@ -86,7 +86,7 @@ uint32_t qv_line(const uint8_t *line, size_t length);
 size_t qv_part_start(const uint8_t *line, size_t length);
 
 /*
- * How many bytes the line's feast word or date has; 0 for a line that qv_line refuses, and for no other.
+ * How many bytes the feast word or date of the line, given as to qv_line, has; 0 for a line that qv_line refuses, and for no other.
  * The start and this length together are never more than the line's length.
  * A length of 0 goes with any pointer, NULL too. No byte is changed.
  * Example: "tue after quasimodo 1587 G" answers 9, the bytes of "quasimodo".

@@ -5,7 +5,7 @@ use crate::line::ending_of;
 use crate::text::behind_last;
 use calendar::span::DayAnswer;
 ghost use mathlib.Core.Path.{_≡_};
-ghost use Rattle.dating.specs.Part.{IsPlace, PartOf};
+ghost use Rattle.dating.specs.Part.{emptyPart, placeOf, IsPlace, PartOf};
 
 // Where a part of a line begins and where it ends.
 pub struct Place {
@@ -13,15 +13,22 @@ pub struct Place {
     pub end: usize,
 }
 
+// The empty place at a line's start.
+fn line_start() -> Place
+    ensures { λ r. ⌜ r ≡ placeOf emptyPart ⌝ }
+{
+    Place { start: 0, end: 0 }
+}
+
 // The place of the part; for a refused line the line's start.
 pub fn place_of_part(line: &[u8]) -> Place
     ensures { λ r. ⌜ IsPlace (now (line .entry)) r ⌝ }
 {
-    let DayAnswer::Day(_) = day_of_line(line) else {
-        return Place { start: 0, end: 0 };
-    };
     let Ending::At(end, _) = ending_of(line) else {
-        return Place { start: 0, end: 0 };
+        return line_start();
+    };
+    let DayAnswer::Day(_) = day_of_line(line) else {
+        return line_start();
     };
     Place {
         start: behind_last(&line[..end], b' '),

@@ -1,5 +1,5 @@
 -- The part: where the last word of the phrase begins, and what stands there.
-use mathlib.Core.Bool.{true, false}
+use mathlib.Core.Bool.{Bool, true, false}
 use mathlib.Core.List.{List, [], _∷_, _++_, append-assoc, append-nil}
 use mathlib.Core.Path.{_≡_, refl, sym, _∙_, ap, subst}
 use Prim.Native.Nat.{ℕ, _+_, _-_, _<_, _≤_}
@@ -9,9 +9,9 @@ use lib.ListN.{length, take, drop, length-append}
 use lib.Seq.{append-snoc, drop-at, take-append-seam, length-take-le}
 use denote.Ref.{RefT, ptr, now}
 use Rattle.calendar.proofs.refusal.Laws.{no-day}
-use Rattle.dating.proofs.Told.{one-told}
+use Rattle.calendar.specs.Range.{between}
 use Rattle.dating.proofs.anchor.Laws.{lacks-space, anchor-some}
-use Rattle.dating.proofs.line.Laws.{TellsEnding, no-ending, ending-of, its-phrase, one-line, one-answer}
+use Rattle.dating.proofs.line.Laws.{TellsEnding, no-ending, ending-of, its-phrase, one-answer}
 use Rattle.dating.proofs.phrase.Laws.{spaced}
 use Rattle.dating.proofs.text.Laws.{no-false, has-here, cut, known-cut}
 use Rattle.dating.specs.Anchor.{Anchor, spellAnchor, GoodAnchor}
@@ -28,6 +28,7 @@ use Rattle.calendar.specs.declared.span.DayAnswer.the-variants.{Day, NoDay}
 use Rattle.calendar.specs.declared.span.DayAnswer.{DayAnswer}
 use Rattle.calendar.specs.declared.year.NamedYear.{NamedYear}
 use Rattle.dating.specs.declared.line.Ending.the-variants.{At, NoEnding}
+use Rattle.dating.specs.declared.line.Ending.{Ending}
 use Rattle.dating.specs.declared.part.Place.{Place}
 use Rattle.dating.specs.declared.wrapper.Wrapper.{Wrapper}
 
@@ -89,27 +90,25 @@ module _ (s : List ℕ) where
   refused-place x (fit h (produced l g e m)) = fit h (produced l g e (rw (← m)))
   refused-place x (fit h (unproduced none m)) = fit h (unproduced none refl)
 
-  module _ (n : ℕ) where
-    pub no-place : IsDayOfLine s (Day n) → TellsEnding s NoEnding → IsPlace s (placeOf emptyPart)
-    no-place (unfit h m) told = no-day Length n (sym m)
-    no-place (fit h (unproduced none m)) told = no-day Form n (sym m)
-    no-place (fit h (produced l g e m)) told = unlike (no-ending s NoEnding told refl)
-      where
-        unlike : Told lines lineDay (NoDay Form) s (NoDay Form) → IsPlace s (placeOf emptyPart)
-        unlike t = no-day Form n (one-told one-line (NoDay Form) (Day n) t (produced l g e m))
+  pub no-place : (r : Ending) → TellsEnding s r → r ≡ NoEnding → IsPlace s (placeOf emptyPart)
+  no-place r told z = go (between 1 (length s) 120) refl (no-ending s r told z)
+    where
+      go : (b : Bool) → between 1 (length s) 120 ≡ b → Told lines lineDay (NoDay Form) s (NoDay Form) → IsPlace s (placeOf emptyPart)
+      go false h t = unfit h refl
+      go true h t = refused-place Form (fit h t)
 
-    module _ (k i : ℕ) (t : NamedYear) (ends : TellsEnding s (At k t)) (b : BehindLast space (take k s) i) where
-      pub accepted-place : IsDayOfLine s (Day n) → IsPlace s (record { start = i; end = k })
-      unfolding linePart
-      accepted-place (unfit h m) = no-day Length n (sym m)
-      accepted-place (fit h (unproduced none m)) = no-day Form n (sym m)
-      accepted-place (fit h (produced l g e m)) =
-          let p = l .phrase in
-          let phrase = its-phrase s k t ends l g e .0 in
-          let start = last-word p i (g .phrase) (rw (← phrase) at b) in
-          let size = ap length phrase ∙ length-take-le k s (ending-of s k t ends .0) in
-          let stop : k ≡ bytesBefore p + length (spellAnchor (anchorOf p)) = sym size ∙ phrase-long p in
-          fit h (produced l g e (rw (← m) (λ j. record { start = start j; end = stop j })))
+  module _ (n k i : ℕ) (t : NamedYear) (ends : TellsEnding s (At k t)) (b : BehindLast space (take k s) i) where
+    pub accepted-place : IsDayOfLine s (Day n) → IsPlace s (record { start = i; end = k })
+    unfolding linePart
+    accepted-place (unfit h m) = no-day Length n (sym m)
+    accepted-place (fit h (unproduced none m)) = no-day Form n (sym m)
+    accepted-place (fit h (produced l g e m)) =
+        let p = l .phrase in
+        let phrase = its-phrase s k t ends l g e .0 in
+        let start = last-word p i (g .phrase) (rw (← phrase) at b) in
+        let size = ap length phrase ∙ length-take-le k s (ending-of s k t ends .0) in
+        let stop : k ≡ bytesBefore p + length (spellAnchor (anchorOf p)) = sym size ∙ phrase-long p in
+        fit h (produced l g e (rw (← m) (λ j. record { start = start j; end = stop j })))
 
   -- the part whose place it is
   pub its-part : (r : Place) → IsPlace s r → (p : Part) × IsPart s p × (r ≡ placeOf p)
