@@ -1,7 +1,7 @@
 // Feast words and dates, on which the wrappers act.
 use crate::numeral::number_of;
 use crate::text::behind_last;
-use crate::text::starts_with;
+use crate::word::word_taken;
 use calendar::date::day_in_year;
 use calendar::refusal::Refusal;
 use calendar::span::DayAnswer;
@@ -20,29 +20,29 @@ const FEAST_AT: [usize; 128] = [
     0,
     0,
     0,
-    23,
-    11,
-    30,
+    23, // corpus
+    11, // cena
+    30, // philip
     0,
     0,
-    29,
-    28,
+    29, // mark
+    28, // annunciation
     0,
     0,
-    19,
-    44,
+    19, // ascension
+    44, // andrew
     0,
     0,
-    48,
+    48, // advent
     0,
     0,
     0,
     0,
-    36,
+    36, // assumption
     0,
-    22,
+    22, // trinity
     0,
-    33,
+    33, // magdalene
     0,
     0,
     0,
@@ -51,27 +51,27 @@ const FEAST_AT: [usize; 128] = [
     0,
     0,
     0,
-    4,
-    8,
+    4, // ashes
+    8, // laetare
     0,
     0,
     0,
     0,
-    42,
-    9,
-    31,
+    42, // saints
+    9, // judica
+    31, // baptist
     0,
-    41,
+    41, // simon
     0,
     0,
     0,
     0,
-    17,
-    16,
-    2,
+    17, // cantate
+    16, // jubilate
+    2, // sexagesima
     0,
-    27,
-    34,
+    27, // matthias
+    34, // james
     0,
     0,
     0,
@@ -79,125 +79,72 @@ const FEAST_AT: [usize; 128] = [
     0,
     0,
     0,
-    26,
-    13,
+    26, // candlemas
+    13, // easter
     0,
-    15,
-    20,
-    35,
-    5,
-    1,
+    15, // misericordia
+    20, // exaudi
+    35, // laurence
+    5, // invocavit
+    1, // septuagesima
     0,
     0,
-    38,
+    38, // matthew
     0,
     0,
-    14,
+    14, // quasimodo
     0,
-    46,
-    32,
-    40,
+    46, // thomas
+    32, // peter
+    40, // luke
     0,
-    12,
-    3,
+    12, // parasceve
+    3, // estomihi
     0,
-    21,
+    21, // pentecost
     0,
     0,
     0,
     0,
     0,
     0,
-    43,
+    43, // martin
     0,
     0,
     0,
-    6,
+    6, // reminiscere
     0,
     0,
     0,
     0,
     0,
-    45,
+    45, // nicholas
     0,
     0,
-    47,
-    0,
-    25,
-    24,
-    37,
-    0,
-    10,
-    0,
-    0,
-    0,
-    0,
-    7,
-    0,
-    0,
-    0,
-    0,
-    39,
-    0,
-    0,
-    0,
-    18,
-    0,
-    0,
-    0,
-];
-
-// Where the feasts' words begin among all, in the order of their numbers, and where one more would.
-const WORD_AT: [usize; 49] = [
-    0,
-    13,
-    24,
-    33,
-    39,
-    49,
-    61,
-    67,
-    75,
-    82,
-    88,
-    93,
-    103,
-    110,
-    120,
-    133,
-    142,
-    150,
-    157,
-    167,
-    174,
-    184,
-    192,
-    199,
-    212,
-    221,
-    231,
-    240,
-    253,
-    258,
-    265,
-    273,
-    279,
-    289,
-    295,
-    304,
-    315,
-    327,
-    335,
-    343,
-    348,
-    354,
-    361,
-    368,
-    375,
-    384,
-    391,
-    401,
-    408,
+    47, // christmas
+    0,
+    25, // epiphany
+    24, // circumcision
+    37, // bartholomew
+    0,
+    10, // palms
+    0,
+    0,
+    0,
+    0,
+    7, // oculi
+    0,
+    0,
+    0,
+    0,
+    39, // michael
+    0,
+    0,
+    0,
+    18, // rogate
+    0,
+    0,
+    0,
 ];
 
 // The slot of two bytes and a length; no two feast words share one.
@@ -231,14 +178,11 @@ fn feast_of_word(word: &[u8]) -> u64
     if number == 0 {
         return 0;
     }
-    let words: &[u8] =
-        b"septuagesima sexagesima estomihi ashes invocavit reminiscere oculi laetare judica palms cena parasceve easter quasimodo misericordia jubilate cantate rogate ascension exaudi pentecost trinity corpus circumcision epiphany candlemas matthias annunciation mark philip baptist peter magdalene james laurence assumption bartholomew matthew michael luke simon saints martin andrew nicholas thomas christmas advent";
-    let start = WORD_AT[number - 1];
-    let end = WORD_AT[number] - 1;
-    if word.len() != end - start {
+    let length = word_taken(word, number);
+    if length == 0 {
         return 0;
     }
-    if !starts_with(word, &words[start..end]) {
+    if length != word.len() {
         return 0;
     }
     number as u64

@@ -6,4 +6,5 @@ mod numeral;
 pub mod part;
 mod phrase;
 mod text;
+mod word;
 mod wrapper;

@@ -1,5 +1,6 @@
 // Wrappers: recognised by three bytes and one comparison, and how each moves a day.
-use crate::text::starts_with;
+use crate::word::FEASTS;
+use crate::word::word_taken;
 use calendar::span::DayAnswer;
 use calendar::span::day_within;
 use calendar::style::Style;
@@ -32,60 +33,38 @@ pub(crate) enum Lead {
 
 // The number of the wrapper whose words fall into a slot; 0 where none do.
 const WRAPPER_AT: [usize; 32] = [
-    3,
+    3, // octave of
     0,
     0,
-    6,
-    13,
-    2,
-    0,
-    0,
-    0,
-    7,
-    14,
-    9,
-    16,
+    6, // wed after
+    13, // wed before
+    2, // morrow of
     0,
     0,
     0,
-    0,
-    1,
-    0,
-    0,
-    0,
-    8,
-    15,
-    4,
-    11,
+    7, // thu after
+    14, // thu before
+    9, // sat after
+    16, // sat before
     0,
     0,
-    10,
-    17,
-    5,
-    12,
     0,
-];
-
-// Where the words of the wrappers begin among all, in the order of their numbers, and where one more would.
-const WORDS_AT: [usize; 18] = [
     0,
-    8,
-    19,
-    30,
-    41,
-    52,
-    63,
-    74,
-    85,
-    96,
-    107,
-    119,
-    131,
-    143,
-    155,
-    167,
-    179,
-    191,
+    1, // eve of
+    0,
+    0,
+    0,
+    8, // fri after
+    15, // fri before
+    4, // mon after
+    11, // mon before
+    0,
+    0,
+    10, // sun after
+    17, // sun before
+    5, // tue after
+    12, // tue before
+    0,
 ];
 
 // The slot of three bytes; no two wrappers share one.
@@ -133,14 +112,11 @@ pub(crate) fn lead_of(phrase: &[u8]) -> Lead
     if number == 0 {
         return Lead::Plain;
     }
-    let words: &[u8] =
-        b"eve of ,morrow of ,octave of ,mon after ,tue after ,wed after ,thu after ,fri after ,sat after ,sun after ,mon before ,tue before ,wed before ,thu before ,fri before ,sat before ,sun before ";
-    let start = WORDS_AT[number - 1];
-    let end = WORDS_AT[number] - 1;
-    if !starts_with(phrase, &words[start..end]) {
+    let length = word_taken(phrase, FEASTS + number);
+    if length == 0 {
         return Lead::Plain;
     }
-    Lead::Wrapped(wrapper_of(number), end - start)
+    Lead::Wrapped(wrapper_of(number), length)
 }
 
 // The day that a wrapper makes of a day of the span.

@@ -4,92 +4,107 @@ use mathlib.Core.List.{List, [], _∷_, _++_, append-nil}
 use mathlib.Core.Path.{_≡_, refl, sym, _∙_, ap, ap₂}
 use Prim.Native.Nat.{ℕ, suc, _+_, _-_, _*_, _%_, _<_, _≤_}
 use native.Mathlib.Omega.{arith}
+use lib.Dec.{eqb, leb, leb→le}
 use lib.ListN.{length, take, drop, getD, length-append}
-use borrow.Author.Tests.{not-true}
+use borrow.Author.Tests.{eqb-true, le-leb, not-true}
+use Rattle.calendar.proofs.Each.{below}
+use Rattle.calendar.proofs.range.Laws.{range}
 use Rattle.calendar.specs.Range.{between}
 use Rattle.dating.proofs.Tests.{tested}
 use Rattle.dating.proofs.Told.{OneReading, number-told, number-untold}
-use Rattle.dating.proofs.Vocabulary.{Vocabulary, Sound, begin, end, cutOut, number-small, its-slot, its-length, its-bytes, its-count}
 use Rattle.dating.proofs.numeral.Laws.{one-number, numeral-lacks}
 use Rattle.dating.proofs.text.Laws.{no-false, starts-append, has-append, has-here, one-cut, same-bytes, cut, known-cut}
+use Rattle.dating.proofs.word.Laws.{stands, stands-not}
 use Rattle.dating.specs.Anchor.{Anchor, feast, date, feastWord, spellAnchor, GoodAnchor, anchors}
 use Rattle.dating.specs.Numeral.{numeral}
-use Rattle.dating.specs.Steps.{starts, has, BehindLast, Guess, numerals, feastWords}
-use Rattle.dating.specs.Text.{bytes, space, point}
+use Rattle.dating.specs.Steps.{starts, has, BehindLast, Guess, numerals, feastWords, wordOf, taken}
+use Rattle.dating.specs.Text.{space, point}
 use Rattle.dating.specs.Told.{Told, produced, unproduced}
 
--- ---- the feast words, as the code finds them
-abbrev pub vocabulary : Vocabulary
-vocabulary = record {
-  count = 48;
-  spelled = feastWord;
-  shortest = 4;
-  longest = 12;
-  slotOf = λ s. (6 * getD s 1 0 + 7 * getD s (length s - 2) 0 + 9 * length s) % 128;
-  numbers = 0 ∷ 0 ∷ 0 ∷ 23 ∷ 11 ∷ 30 ∷ 0 ∷ 0 ∷ 29 ∷ 28 ∷ 0 ∷ 0 ∷ 19 ∷ 44 ∷ 0 ∷ 0 ∷ 48 ∷ 0 ∷ 0 ∷ 0 ∷ 0 ∷ 36 ∷ 0 ∷ 22 ∷ 0 ∷ 33 ∷ 0 ∷ 0 ∷ 0 ∷ 0 ∷ 0 ∷ 0 ∷ 0 ∷ 0 ∷ 4 ∷ 8 ∷ 0 ∷ 0 ∷ 0 ∷ 0 ∷ 42 ∷ 9 ∷ 31 ∷ 0 ∷ 41 ∷ 0 ∷ 0 ∷ 0 ∷ 0 ∷ 17 ∷ 16 ∷ 2 ∷ 0 ∷ 27 ∷ 34 ∷ 0 ∷ 0 ∷ 0 ∷ 0 ∷ 0 ∷ 0 ∷ 0 ∷ 26 ∷ 13 ∷ 0 ∷ 15 ∷ 20 ∷ 35 ∷ 5 ∷ 1 ∷ 0 ∷ 0 ∷ 38 ∷ 0 ∷ 0 ∷ 14 ∷ 0 ∷ 46 ∷ 32 ∷ 40 ∷ 0 ∷ 12 ∷ 3 ∷ 0 ∷ 21 ∷ 0 ∷ 0 ∷ 0 ∷ 0 ∷ 0 ∷ 0 ∷ 43 ∷ 0 ∷ 0 ∷ 0 ∷ 6 ∷ 0 ∷ 0 ∷ 0 ∷ 0 ∷ 0 ∷ 45 ∷ 0 ∷ 0 ∷ 47 ∷ 0 ∷ 25 ∷ 24 ∷ 37 ∷ 0 ∷ 10 ∷ 0 ∷ 0 ∷ 0 ∷ 0 ∷ 7 ∷ 0 ∷ 0 ∷ 0 ∷ 0 ∷ 39 ∷ 0 ∷ 0 ∷ 0 ∷ 18 ∷ 0 ∷ 0 ∷ 0 ∷ [];
-  places = 0 ∷ 13 ∷ 24 ∷ 33 ∷ 39 ∷ 49 ∷ 61 ∷ 67 ∷ 75 ∷ 82 ∷ 88 ∷ 93 ∷ 103 ∷ 110 ∷ 120 ∷ 133 ∷ 142 ∷ 150 ∷ 157 ∷ 167 ∷ 174 ∷ 184 ∷ 192 ∷ 199 ∷ 212 ∷ 221 ∷ 231 ∷ 240 ∷ 253 ∷ 258 ∷ 265 ∷ 273 ∷ 279 ∷ 289 ∷ 295 ∷ 304 ∷ 315 ∷ 327 ∷ 335 ∷ 343 ∷ 348 ∷ 354 ∷ 361 ∷ 368 ∷ 375 ∷ 384 ∷ 391 ∷ 401 ∷ 408 ∷ [];
-  text = bytes "septuagesima sexagesima estomihi ashes invocavit reminiscere oculi laetare judica palms cena parasceve easter quasimodo misericordia jubilate cantate rogate ascension exaudi pentecost trinity corpus circumcision epiphany candlemas matthias annunciation mark philip baptist peter magdalene james laurence assumption bartholomew matthew michael luke simon saints martin andrew nicholas thomas christmas advent";
-}
+-- ---- one feast word alone may be the bytes, told by two of them and their number
+abbrev pub feastAt : List ℕ
+feastAt = 0 ∷ 0 ∷ 0 ∷ 23 ∷ 11 ∷ 30 ∷ 0 ∷ 0 ∷ 29 ∷ 28 ∷ 0 ∷ 0 ∷ 19 ∷ 44 ∷ 0 ∷ 0 ∷ 48 ∷ 0 ∷ 0 ∷ 0 ∷ 0 ∷ 36 ∷ 0 ∷ 22 ∷ 0 ∷ 33 ∷ 0 ∷ 0 ∷ 0 ∷ 0 ∷ 0 ∷ 0 ∷ 0 ∷ 0 ∷ 4 ∷ 8 ∷ 0 ∷ 0 ∷ 0 ∷ 0 ∷ 42 ∷ 9 ∷ 31 ∷ 0 ∷ 41 ∷ 0 ∷ 0 ∷ 0 ∷ 0 ∷ 17 ∷ 16 ∷ 2 ∷ 0 ∷ 27 ∷ 34 ∷ 0 ∷ 0 ∷ 0 ∷ 0 ∷ 0 ∷ 0 ∷ 0 ∷ 26 ∷ 13 ∷ 0 ∷ 15 ∷ 20 ∷ 35 ∷ 5 ∷ 1 ∷ 0 ∷ 0 ∷ 38 ∷ 0 ∷ 0 ∷ 14 ∷ 0 ∷ 46 ∷ 32 ∷ 40 ∷ 0 ∷ 12 ∷ 3 ∷ 0 ∷ 21 ∷ 0 ∷ 0 ∷ 0 ∷ 0 ∷ 0 ∷ 0 ∷ 43 ∷ 0 ∷ 0 ∷ 0 ∷ 6 ∷ 0 ∷ 0 ∷ 0 ∷ 0 ∷ 0 ∷ 45 ∷ 0 ∷ 0 ∷ 47 ∷ 0 ∷ 25 ∷ 24 ∷ 37 ∷ 0 ∷ 10 ∷ 0 ∷ 0 ∷ 0 ∷ 0 ∷ 7 ∷ 0 ∷ 0 ∷ 0 ∷ 0 ∷ 39 ∷ 0 ∷ 0 ∷ 0 ∷ 18 ∷ 0 ∷ 0 ∷ 0 ∷ []
 
-pub sound : Sound vocabulary
-unfolding starts between
-sound = record { words = tt; slots = tt }
+abbrev pub slotOf : List ℕ → ℕ
+slotOf s = (6 * getD s 1 0 + 7 * getD s (length s - 2) 0 + 9 * length s) % 128
+
+-- what holds of each feast word: its slot, its length, and no space or point in it
+worded : ℕ → List Bool
+worded f =
+    let w = feastWord f in
+    eqb (getD feastAt (slotOf w) 0) f ∷ between 4 (length w) 12 ∷ not (has space w) ∷ not (has point w) ∷ []
+
+module _ (f : ℕ) (low : 1 ≤ f) (high : f ≤ 48) where
+  all-worded : (i : ℕ) → getD (worded f) i true ≡ true
+  unfolding worded between has
+  all-worded i = tested worded 48 tt f low high i
+
+  its-slot : getD feastAt (slotOf (feastWord f)) 0 ≡ f
+  unfolding worded
+  its-slot = eqb-true _ f (all-worded 0)
+
+  its-length : (4 ≤ length (feastWord f)) × (length (feastWord f) ≤ 12)
+  unfolding worded
+  its-length = range 4 (length (feastWord f)) 12 (all-worded 1)
+
+  feast-lacks-space : has space (feastWord f) ≡ false
+  unfolding worded
+  feast-lacks-space = not-true _ (all-worded 2)
+
+  feast-lacks-point : has point (feastWord f) ≡ false
+  unfolding worded
+  feast-lacks-point = not-true _ (all-worded 3)
+
+  its-word : wordOf f ≡ feastWord f
+  unfolding wordOf
+  its-word = rw (le-leb f 48 high)
 
 abbrev pub Names : List ℕ → ℕ → Type 0
 Names s n = feastWord n ≡ s
 
-pub guess : (s : List ℕ) → Guess 48 (Names s) (getD (vocabulary .numbers) (vocabulary .slotOf s) 0)
+pub guess : (s : List ℕ) → Guess 48 (Names s) (getD feastAt (slotOf s) 0)
 guess s = record {
-  small = number-small vocabulary sound (vocabulary .slotOf s) (omega arith);
-  only = λ n low high e. rw e at (its-slot vocabulary sound n low high);
+  small = leb→le _ 48 (below (λ i. leb (getD feastAt i 0) 48) 128 tt (slotOf s) (omega arith));
+  only = λ n low high e. rw e at (its-slot n low high);
 }
 
 pub no-guess : (s : List ℕ) → ((4 ≤ length s) × (length s ≤ 12) → ⊥) → Guess 48 (Names s) 0
-no-guess s h = record { small = omega arith; only = λ n low high e. absurd (h (rw e at (its-length vocabulary sound n low high))) }
+no-guess s h = record { small = omega arith; only = λ n low high e. absurd (h (rw e at (its-length n low high))) }
 
 module _ (s : List ℕ) (r : ℕ) (g : Guess 48 (Names s) r) where
-  pub no-feast : (1 ≤ r → cutOut vocabulary r ≡ s → ⊥) → Told feastWords (λ n. n) 0 s 0
+  no-feast : (1 ≤ r → feastWord r ≡ s → ⊥) → Told feastWords (λ n. n) 0 s 0
   no-feast differs =
       unproduced (λ n good e.
       let same = g .only n (good .0) (good .1) e in
-      let low : 1 ≤ r = omega (arith, good) in
-      differs low (its-bytes vocabulary sound r low (g .small) ∙ rw (← same) at e)) refl
+      differs (omega (arith, good)) (rw (← same) at e)) refl
 
-  pub a-feast : 1 ≤ r → length s ≡ end vocabulary r - begin vocabulary r → starts (cutOut vocabulary r) s ≡ true → Told feastWords (λ n. n) 0 s r
-  a-feast low l e =
-      let w = its-bytes vocabulary sound r low (g .small) in
-      let c = its-count vocabulary sound r low (g .small) in
-      produced r (low, g .small) (same-bytes (feastWord r) s (rw w at e) (sym c ∙ sym l)) refl
+  module _ (low : 1 ≤ r) where
+    word-stands : feastWord r ≡ s → starts (wordOf r) s ≡ true
+    word-stands e = rw (its-word r low (g .small), ← e) (rw append-nil at (starts-append (feastWord r) []))
 
--- bytes that are no feast word by their length, or by one byte
-pub cut-length : (s : List ℕ) (n : ℕ) → 1 ≤ n → n ≤ 48 → cutOut vocabulary n ≡ s → length s ≡ end vocabulary n - begin vocabulary n
-cut-length s n low high e = sym (ap length e) ∙ ap length (its-bytes vocabulary sound n low high) ∙ sym (its-count vocabulary sound n low high)
+    pub not-there : taken (wordOf r) s ≡ 0 → Told feastWords (λ n. n) 0 s 0
+    not-there none =
+        let small = g .small in
+        no-feast (λ h e. no-false (sym (word-stands e) ∙ stands-not r low (omega arith) s none))
 
-pub unlike : (w s : List ℕ) → w ≡ s → starts w s ≡ false → ⊥
-unlike w s e differs = no-false (sym (rw (append-nil w, e) at (starts-append w [])) ∙ rw e at differs)
+    pub not-all : (taken (wordOf r) s ≡ length s → ⊥) → Told feastWords (λ n. n) 0 s 0
+    not-all differs = no-feast (λ h e. differs (rw (word-stands e) (ap length (its-word r low (g .small) ∙ e))))
+
+    pub a-feast : (taken (wordOf r) s ≡ 0 → ⊥) → taken (wordOf r) s ≡ length s → Told feastWords (λ n. n) 0 s r
+    a-feast some all =
+        let small = g .small in
+        let there = stands r low (omega arith) s some in
+        produced r (low, small) (sym (its-word r low small) ∙ same-bytes (wordOf r) s (there .0) (sym (there .1) ∙ all)) refl
+
+pub guess-none : (s : List ℕ) (r : ℕ) → Guess 48 (Names s) r → r ≡ 0 → Told feastWords (λ n. n) 0 s 0
+guess-none s r g z = no-feast s r g (λ low e. omega arith)
 
 one-feast : (f f′ : ℕ) → 1 ≤ f → f ≤ 48 → 1 ≤ f′ → f′ ≤ 48 → feastWord f ≡ feastWord f′ → f ≡ f′
 one-feast f f′ low high low′ high′ e =
     let g = guess (feastWord f′) in
     sym (g .only f low high e) ∙ g .only f′ low′ high′ refl
 
--- ---- what stands in none of the words
-lacking : ℕ → List Bool
-lacking f = not (has space (feastWord f)) ∷ not (has point (feastWord f)) ∷ []
-
-module _ (f : ℕ) (low : 1 ≤ f) (high : f ≤ 48) where
-  lacks : (i : ℕ) → getD (lacking f) i true ≡ true
-  unfolding lacking has
-  lacks i = tested lacking 48 tt f low high i
-
-  feast-lacks-space : has space (feastWord f) ≡ false
-  unfolding lacking
-  feast-lacks-space = not-true _ (lacks 0)
-
-  feast-lacks-point : has point (feastWord f) ≡ false
-  unfolding lacking
-  feast-lacks-point = not-true _ (lacks 1)
-
+-- ---- what stands in neither
 pub lacks-space : (a : Anchor) → GoodAnchor a → has space (spellAnchor a) ≡ false
 unfolding spellAnchor GoodAnchor has
 lacks-space (feast f) g = feast-lacks-space f (g .0) (g .1)
@@ -99,7 +114,7 @@ lacks-space (date d m) g =
 
 pub anchor-some : (a : Anchor) → GoodAnchor a → 1 ≤ length (spellAnchor a)
 unfolding spellAnchor GoodAnchor
-anchor-some (feast f) g = omega (arith, its-length vocabulary sound f (g .0) (g .1))
+anchor-some (feast f) g = omega (arith, its-length f (g .0) (g .1))
 anchor-some (date d m) g = omega (arith, length-append (numeral d) (point ∷ numeral m))
 
 -- ---- one reading

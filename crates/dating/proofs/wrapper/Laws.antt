@@ -4,14 +4,14 @@ use mathlib.Core.List.{List, [], _∷_, _++_}
 use mathlib.Core.Path.{_≡_, refl, sym, _∙_, ap}
 use Prim.Native.Nat.{ℕ, _+_, _-_, _*_, _%_, _<_, _≤_}
 use native.Mathlib.Omega.{arith}
-use lib.Dec.{ltb}
+use lib.Dec.{eqb, leb, ltb, leb→le}
 use lib.ListN.{length, drop, getD}
-use borrow.Author.Tests.{ltb-true, ltb-false, lt-ltb, le-ltb}
-use Rattle.dating.proofs.Vocabulary.{Vocabulary, Sound, begin, end, cutOut, number-small, its-slot, its-length, its-bytes, its-count}
+use borrow.Author.Tests.{eqb-true, leb-true, lt-leb, ltb-true, ltb-false, lt-ltb, le-ltb}
+use Rattle.calendar.proofs.Each.{below}
+use Rattle.dating.proofs.Tests.{tested}
 use Rattle.dating.proofs.text.Laws.{no-false, too-short, begun, same-byte, starts-append}
-use Rattle.calendar.specs.Range.{between}
-use Rattle.dating.specs.Steps.{starts, Guess, Leading, leadings, lead, wrapperOf}
-use Rattle.dating.specs.Text.{bytes}
+use Rattle.dating.proofs.word.Laws.{stands, stands-not}
+use Rattle.dating.specs.Steps.{starts, Guess, leadings, lead, wrapperOf, wordOf, taken}
 use Rattle.dating.specs.Told.{Told, produced, unproduced}
 use Rattle.dating.specs.Wrapper.{wrapperWords, GoodWrapper}
 use Rattle.calendar.specs.declared.weekday.Side.the-variants.{After, Before}
@@ -55,43 +55,52 @@ good-number n h = go (ltb n 2) (ltb n 3) (ltb n 4) (ltb n 11) refl refl
     go false false false true p q = (omega (arith, ltb-false n 4 p), omega (arith, ltb-true n 11 q))
     go false false false false p q = (omega (arith, ltb-false n 11 q), omega arith)
 
--- ---- the wrappers' words, as the code finds them
-abbrev pub vocabulary : Vocabulary
-vocabulary = record {
-  count = 17;
-  spelled = λ n. wrapperWords (wrapperOf n);
-  shortest = 7;
-  longest = 11;
-  slotOf = λ s. (2 * getD s 0 0 + 4 * getD s 1 0 + getD s 4 0) % 32;
-  numbers = 3 ∷ 0 ∷ 0 ∷ 6 ∷ 13 ∷ 2 ∷ 0 ∷ 0 ∷ 0 ∷ 7 ∷ 14 ∷ 9 ∷ 16 ∷ 0 ∷ 0 ∷ 0 ∷ 0 ∷ 1 ∷ 0 ∷ 0 ∷ 0 ∷ 8 ∷ 15 ∷ 4 ∷ 11 ∷ 0 ∷ 0 ∷ 10 ∷ 17 ∷ 5 ∷ 12 ∷ 0 ∷ [];
-  places = 0 ∷ 8 ∷ 19 ∷ 30 ∷ 41 ∷ 52 ∷ 63 ∷ 74 ∷ 85 ∷ 96 ∷ 107 ∷ 119 ∷ 131 ∷ 143 ∷ 155 ∷ 167 ∷ 179 ∷ 191 ∷ [];
-  text = bytes "eve of ,morrow of ,octave of ,mon after ,tue after ,wed after ,thu after ,fri after ,sat after ,sun after ,mon before ,tue before ,wed before ,thu before ,fri before ,sat before ,sun before ";
-}
+-- ---- one wrapper alone may stand at the start, told by three bytes
+abbrev pub wrapperAt : List ℕ
+wrapperAt =
+    3 ∷ 0 ∷ 0 ∷ 6 ∷ 13 ∷ 2 ∷ 0 ∷ 0 ∷ 0 ∷ 7 ∷ 14 ∷ 9 ∷ 16 ∷ 0 ∷ 0 ∷ 0 ∷ 0 ∷ 1 ∷ 0 ∷ 0 ∷ 0 ∷ 8 ∷ 15 ∷ 4 ∷ 11 ∷ 0 ∷ 0 ∷ 10 ∷ 17 ∷ 5 ∷ 12 ∷ 0 ∷ []
 
-pub sound : Sound vocabulary
-unfolding starts between
-sound = record { words = tt; slots = tt }
+abbrev pub slotOf : List ℕ → ℕ
+slotOf s = (2 * getD s 0 0 + 4 * getD s 1 0 + getD s 4 0) % 32
 
--- ---- one wrapper alone may stand at the start
+slotted : ℕ → List Bool
+slotted n = eqb (getD wrapperAt (slotOf (wrapperWords (wrapperOf n))) 0) n ∷ leb 5 (length (wrapperWords (wrapperOf n))) ∷ []
+
+module _ (n : ℕ) (low : 1 ≤ n) (high : n ≤ 17) where
+  its-slot : getD wrapperAt (slotOf (wrapperWords (wrapperOf n))) 0 ≡ n
+  unfolding slotted
+  its-slot = eqb-true _ n (tested slotted 17 tt n low high 0)
+
+  five-bytes : 5 ≤ length (wrapperWords (wrapperOf n))
+  unfolding slotted
+  five-bytes = leb-true 5 (length (wrapperWords (wrapperOf n))) (tested slotted 17 tt n low high 1)
+
 abbrev pub Begins : List ℕ → ℕ → Type 0
 Begins s n = starts (wrapperWords (wrapperOf n)) s ≡ true
 
-pub guess : (s : List ℕ) → Guess 17 (Begins s) (getD (vocabulary .numbers) (vocabulary .slotOf s) 0)
+pub guess : (s : List ℕ) → Guess 17 (Begins s) (getD wrapperAt (slotOf s) 0)
 guess s = record {
-  small = number-small vocabulary sound (vocabulary .slotOf s) (omega arith);
+  small = leb→le _ 17 (below (λ i. leb (getD wrapperAt i 0) 17) 32 tt (slotOf s) (omega arith));
   only = λ n low high e.
       let w = wrapperWords (wrapperOf n) in
-      let long = its-length vocabulary sound n low high in
-      rw (same-byte w s 0 e (omega arith), same-byte w s 1 e (omega arith), same-byte w s 4 e (omega arith)) (its-slot vocabulary sound n low high);
+      let long = five-bytes n low high in
+      rw (same-byte w s 0 e (omega arith), same-byte w s 1 e (omega arith), same-byte w s 4 e (omega arith)) (its-slot n low high);
 }
 
 pub no-guess : (s : List ℕ) → length s < 5 → Guess 17 (Begins s) 0
 no-guess s h = record {
   small = omega arith;
   only = λ n low high e.
-      let long = its-length vocabulary sound n low high in
+      let long = five-bytes n low high in
       no-false (sym e ∙ too-short (wrapperWords (wrapperOf n)) s (omega arith));
 }
+
+-- ---- what a phrase begins with, by the word that is taken from it
+its-word : (n : ℕ) → 1 ≤ n → wordOf (48 + n) ≡ wrapperWords (wrapperOf n)
+unfolding wordOf
+its-word n low =
+    let number : 48 + n - 48 ≡ n = omega arith in
+    rw (lt-leb (48 + n) 48 (omega arith), number)
 
 module _ (s : List ℕ) (r : ℕ) (g : Guess 17 (Begins s) r) where
   -- a wrapper that stands at the start is the guessed one
@@ -102,18 +111,22 @@ module _ (s : List ℕ) (r : ℕ) (g : Guess 17 (Begins s) r) where
       let same = g .only (numberOf w) (n .0 .0) (n .0 .1) begins in
       rw same (n .0 .0, sym (n .1))
 
-  pub lead-plain : (1 ≤ r → starts (cutOut vocabulary r) s ≡ false) → Told leadings lead Plain s Plain
-  lead-plain differs =
+  pub lead-plain : (1 ≤ r → taken (wordOf (48 + r)) s ≡ 0) → Told leadings lead Plain s Plain
+  lead-plain none =
       unproduced (λ x good e.
       let k = known (x .wrapper) (x .rest) good e in
-      let d = rw (its-bytes vocabulary sound r (k .0) (g .small), ← k .1, ← e) at (differs (k .0)) in
-      no-false (sym (starts-append (wrapperWords (x .wrapper)) (x .rest)) ∙ d)) refl
+      let small = g .small in
+      let d = stands-not (48 + r) (omega arith) (omega arith) s (none (k .0)) in
+      let differs = rw (its-word r (k .0), ← k .1, ← e) at d in
+      no-false (sym (starts-append (wrapperWords (x .wrapper)) (x .rest)) ∙ differs)) refl
 
-  pub lead-wrapped : 1 ≤ r → starts (cutOut vocabulary r) s ≡ true → Told leadings lead Plain s (Wrapped (wrapperOf r) (end vocabulary r - begin vocabulary r))
-  lead-wrapped low e =
+  pub lead-wrapped : 1 ≤ r → (taken (wordOf (48 + r)) s ≡ 0 → ⊥) → Told leadings lead Plain s (Wrapped (wrapperOf r) (taken (wordOf (48 + r)) s))
+  lead-wrapped low some =
       let w = wrapperWords (wrapperOf r) in
-      produced (record { wrapper = wrapperOf r; rest = drop (length w) s }) (good-number r (g .small))
-      (begun w s (rw (its-bytes vocabulary sound r low (g .small)) at e)) (rw (its-count vocabulary sound r low (g .small)))
+      let small = g .small in
+      let there = stands (48 + r) (omega arith) (omega arith) s some in
+      produced (record { wrapper = wrapperOf r; rest = drop (length w) s }) (good-number r small) (begun w s (rw (its-word r low) at (there .0)))
+      (ap (Wrapped (wrapperOf r)) (there .1 ∙ ap length (its-word r low)))
 
 -- no wrapper's words begin another's
 pub one-wrapper : (v w : Wrapper) (a b : List ℕ) → GoodWrapper v → GoodWrapper w → wrapperWords v ++ a ≡ wrapperWords w ++ b → v ≡ w
