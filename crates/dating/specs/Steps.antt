@@ -3,7 +3,7 @@ use mathlib.Core.Bool.{Bool, true, false, _&&_, _||_, cond}
 use mathlib.Core.List.{List, [], _∷_, _++_}
 use mathlib.Core.Path.{_≡_}
 use Prim.Native.Nat.{ℕ, _-_, _≤_, _<_}
-use lib.Dec.{eqb, leb, ltb}
+use lib.Dec.{eqb, ltb}
 use lib.ListN.{length, drop, getD}
 use Rattle.calendar.specs.Style.{styleLetter}
 use Rattle.dating.specs.Anchor.{feastWord}
@@ -26,6 +26,10 @@ unfoldable pub starts : List ℕ → List ℕ → Bool
 starts [] s = true
 starts (x ∷ w) [] = false
 starts (x ∷ w) (y ∷ s) = eqb x y && starts w s
+
+-- how many bytes the word w takes at the start of s; 0 where it does not stand there
+abbrev pub taken : List ℕ → List ℕ → ℕ
+taken w s = cond (starts w s) (length w) 0
 
 -- the byte c stands in s
 unfoldable pub has : ℕ → List ℕ → Bool
@@ -76,14 +80,6 @@ wrapperOf n =
     (cond (ltb n 4) Octave
     (cond (ltb n 11) (First After (n - 3))
     (First Before (n - 10)))))
-
--- all words of the line by the numbers 1 to 65: the feasts', and behind them the wrappers'
-unfoldable pub wordOf : ℕ → List ℕ
-wordOf n = cond (leb n 48) (feastWord n) (wrapperWords (wrapperOf (n - 48)))
-
--- how many bytes the word w takes at the start of s; 0 where it does not stand there
-abbrev pub taken : List ℕ → List ℕ → ℕ
-taken w s = cond (starts w s) (length w) 0
 
 -- any bytes before a year and a style letter
 pub record Ended : Type 0 where

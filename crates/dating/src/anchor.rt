@@ -1,7 +1,7 @@
 // Feast words and dates, on which the wrappers act.
 use crate::numeral::number_of;
 use crate::text::behind_last;
-use crate::word::word_taken;
+use crate::word::feast_taken;
 use calendar::date::day_in_year;
 use calendar::refusal::Refusal;
 use calendar::span::DayAnswer;
@@ -16,7 +16,7 @@ ghost use Rattle.dating.specs.Steps.{Guess, feastWords};
 ghost use Rattle.dating.specs.Told.{Told};
 
 // The number of the feast whose word falls into a slot; 0 where none does.
-const FEAST_AT: [usize; 128] = [
+const FEAST_AT: [u8; 128] = [
     0,
     0,
     0,
@@ -167,7 +167,7 @@ fn feast_guess(word: &[u8]) -> usize
         return 0;
     }
     let i = slot(word[1], word[length - 2], length);
-    FEAST_AT[i]
+    FEAST_AT[i] as usize
 }
 
 // The number of the feast whose word it is, or 0.
@@ -178,7 +178,7 @@ fn feast_of_word(word: &[u8]) -> u64
     if number == 0 {
         return 0;
     }
-    let length = word_taken(word, number);
+    let length = feast_taken(word, number);
     if length == 0 {
         return 0;
     }

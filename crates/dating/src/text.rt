@@ -1,6 +1,6 @@
 // Bytes and words.
 ghost use mathlib.Core.Path.{_≡_};
-ghost use Rattle.dating.specs.Steps.{starts, BehindLast};
+ghost use Rattle.dating.specs.Steps.{starts, taken, BehindLast};
 
 // Whether a word stands at the start.
 pub(crate) fn starts_with(text: &[u8], word: &[u8]) -> bool
@@ -17,6 +17,16 @@ pub(crate) fn starts_with(text: &[u8], word: &[u8]) -> bool
         i += 1;
     }
     true
+}
+
+// How many bytes a word takes at the start; 0 where it does not stand there.
+pub(crate) fn word_taken(text: &[u8], word: &[u8]) -> usize
+    ensures { λ r. ⌜ r ≡ taken (now (word .entry)) (now (text .entry)) ⌝ }
+{
+    if starts_with(text, word) {
+        return word.len();
+    }
+    0
 }
 
 // The place behind the last such byte, or the start where there is none.

@@ -1,14 +1,12 @@
-// All words of the line in one text: the feast words by their numbers, and behind them the wrappers'.
-use crate::text::starts_with;
+// The text of the feast words. It and the tables are laid on the stack where they are read, so they are kept small.
+use crate::text::word_taken;
 ghost use mathlib.Core.Path.{_≡_};
 ghost use Prim.Native.Nat.{_≤_};
-ghost use Rattle.dating.specs.Steps.{wordOf, taken};
+ghost use Rattle.dating.specs.Anchor.{feastWord};
+ghost use Rattle.dating.specs.Steps.{taken};
 
-// How many feasts there are, behind whose words the wrappers' stand.
-pub(crate) const FEASTS: usize = 48;
-
-// Where the words begin in the text, and where one more would.
-const WORD_AT: [usize; 66] = [
+// Where the feast words begin in the text, and where one more would.
+const WORD_AT: [u16; 49] = [
     0, // septuagesima
     13, // sexagesima
     24, // estomihi
@@ -57,37 +55,17 @@ const WORD_AT: [usize; 66] = [
     384, // thomas
     391, // christmas
     401, // advent
-    408, // eve of
-    416, // morrow of
-    427, // octave of
-    438, // mon after
-    449, // tue after
-    460, // wed after
-    471, // thu after
-    482, // fri after
-    493, // sat after
-    504, // sun after
-    515, // mon before
-    527, // tue before
-    539, // wed before
-    551, // thu before
-    563, // fri before
-    575, // sat before
-    587, // sun before
-    599, // behind the last
+    408, // behind the last
 ];
 
-// How many bytes the word with a number takes at the start; 0 where it does not stand there.
-pub(crate) fn word_taken(text: &[u8], number: usize) -> usize
-    requires { ⌜ (1 ≤ number) × (number ≤ 65) ⌝ }
-    ensures { λ r. ⌜ r ≡ taken (wordOf number) (now (text .entry)) ⌝ }
+// How many bytes the word of a feast takes at the start; 0 where it does not stand there.
+pub(crate) fn feast_taken(text: &[u8], feast: usize) -> usize
+    requires { ⌜ (1 ≤ feast) × (feast ≤ 48) ⌝ }
+    ensures { λ r. ⌜ r ≡ taken (feastWord feast) (now (text .entry)) ⌝ }
 {
     let words: &[u8] =
-        b"septuagesima,sexagesima,estomihi,ashes,invocavit,reminiscere,oculi,laetare,judica,palms,cena,parasceve,easter,quasimodo,misericordia,jubilate,cantate,rogate,ascension,exaudi,pentecost,trinity,corpus,circumcision,epiphany,candlemas,matthias,annunciation,mark,philip,baptist,peter,magdalene,james,laurence,assumption,bartholomew,matthew,michael,luke,simon,saints,martin,andrew,nicholas,thomas,christmas,advent,eve of ,morrow of ,octave of ,mon after ,tue after ,wed after ,thu after ,fri after ,sat after ,sun after ,mon before ,tue before ,wed before ,thu before ,fri before ,sat before ,sun before ";
-    let start = WORD_AT[number - 1];
-    let end = WORD_AT[number] - 1;
-    if !starts_with(text, &words[start..end]) {
-        return 0;
-    }
-    end - start
+        b"septuagesima,sexagesima,estomihi,ashes,invocavit,reminiscere,oculi,laetare,judica,palms,cena,parasceve,easter,quasimodo,misericordia,jubilate,cantate,rogate,ascension,exaudi,pentecost,trinity,corpus,circumcision,epiphany,candlemas,matthias,annunciation,mark,philip,baptist,peter,magdalene,james,laurence,assumption,bartholomew,matthew,michael,luke,simon,saints,martin,andrew,nicholas,thomas,christmas,advent";
+    let start = WORD_AT[feast - 1] as usize;
+    let end = WORD_AT[feast] as usize - 1;
+    word_taken(text, &words[start..end])
 }

@@ -1,6 +1,6 @@
 // Wrappers: recognised by three bytes and one comparison, and how each moves a day.
-use crate::word::FEASTS;
-use crate::word::word_taken;
+use crate::text::starts_with;
+use crate::text::word_taken;
 use calendar::span::DayAnswer;
 use calendar::span::day_within;
 use calendar::style::Style;
@@ -8,12 +8,13 @@ use calendar::weekday::Side;
 use calendar::weekday::first_weekday;
 ghost use mathlib.Core.Path.{_≡_};
 ghost use mathlib.Core.Bool.{true};
-ghost use Prim.Native.Nat.{_+_, _*_, _%_};
+ghost use mathlib.Core.List.{_++_};
+ghost use Prim.Native.Nat.{_+_, _*_, _%_, _≤_};
 ghost use Rattle.calendar.specs.Span.{inSpan};
 ghost use Rattle.calendar.specs.declared.span.DayAnswer.the-variants.{Day};
 ghost use Rattle.dating.specs.Told.{Told};
-ghost use Rattle.dating.specs.Steps.{starts, Guess, leadings, lead, wrapperOf};
-ghost use Rattle.dating.specs.Wrapper.{wrapperWords, acted};
+ghost use Rattle.dating.specs.Steps.{starts, taken, Guess, leadings, lead, wrapperOf};
+ghost use Rattle.dating.specs.Wrapper.{weekdayWord, sideWord, wrapperWords, GoodWrapper, acted};
 ghost use Rattle.dating.specs.declared.wrapper.Lead.the-variants.{Plain};
 
 // What stands before a phrase and moves its day.
@@ -32,7 +33,7 @@ pub(crate) enum Lead {
 }
 
 // The number of the wrapper whose words fall into a slot; 0 where none do.
-const WRAPPER_AT: [usize; 32] = [
+const WRAPPER_AT: [u8; 32] = [
     3, // octave of
     0,
     0,
@@ -82,7 +83,7 @@ fn wrapper_guess(phrase: &[u8]) -> usize
         return 0;
     }
     let i = slot(phrase[0], phrase[1], phrase[4]);
-    WRAPPER_AT[i]
+    WRAPPER_AT[i] as usize
 }
 
 // The wrappers in the order of their numbers, from 1 to 17.
@@ -104,6 +105,50 @@ fn wrapper_of(number: usize) -> Wrapper
     Wrapper::First(Side::Before, (number - 10) as u64)
 }
 
+// How many bytes the words of a side take at the start; 0 where they do not stand there.
+fn side_taken(text: &[u8], side: Side) -> usize
+    ensures { λ r. ⌜ r ≡ taken (sideWord side) (now (text .entry)) ⌝ }
+{
+    match side {
+        Side::After => word_taken(text, b" after "),
+        Side::Before => word_taken(text, b" before "),
+    }
+}
+
+// How many bytes a weekday and the words of a side take at the start; 0 where they do not stand there.
+fn weekday_taken(text: &[u8], side: Side, weekday: u64) -> usize
+    requires { ⌜ (1 ≤ weekday) × (weekday ≤ 7) ⌝ }
+    ensures { λ r. ⌜ r ≡ taken (weekdayWord weekday ++ sideWord side) (now (text .entry)) ⌝ }
+{
+    if text.len() < 3 {
+        return 0;
+    }
+    let weekdays: &[u8] = b"montuewedthufrisatsun";
+    let end = 3 * weekday as usize;
+    let start = end - 3;
+    if !starts_with(text, &weekdays[start..end]) {
+        return 0;
+    }
+    let length = side_taken(&text[3..], side);
+    if length == 0 {
+        return 0;
+    }
+    3 + length
+}
+
+// How many bytes a wrapper's words take at the start; 0 where they do not stand there.
+fn wrapper_taken(text: &[u8], wrapper: Wrapper) -> usize
+    requires { ⌜ GoodWrapper wrapper ⌝ }
+    ensures { λ r. ⌜ r ≡ taken (wrapperWords wrapper) (now (text .entry)) ⌝ }
+{
+    match wrapper {
+        Wrapper::Eve => word_taken(text, b"eve of "),
+        Wrapper::Morrow => word_taken(text, b"morrow of "),
+        Wrapper::Octave => word_taken(text, b"octave of "),
+        Wrapper::First(side, weekday) => weekday_taken(text, side, weekday),
+    }
+}
+
 // The wrapper that a phrase begins with.
 pub(crate) fn lead_of(phrase: &[u8]) -> Lead
     ensures { λ r. ⌜ Told leadings lead Plain (now (phrase .entry)) r ⌝ }
@@ -112,11 +157,12 @@ pub(crate) fn lead_of(phrase: &[u8]) -> Lead
     if number == 0 {
         return Lead::Plain;
     }
-    let length = word_taken(phrase, FEASTS + number);
+    let wrapper = wrapper_of(number);
+    let length = wrapper_taken(phrase, wrapper);
     if length == 0 {
         return Lead::Plain;
     }
-    Lead::Wrapped(wrapper_of(number), length)
+    Lead::Wrapped(wrapper, length)
 }
 
 // The day that a wrapper makes of a day of the span.

@@ -6,18 +6,17 @@ use Prim.Native.Nat.{ℕ, suc, _+_, _-_, _*_, _%_, _<_, _≤_}
 use native.Mathlib.Omega.{arith}
 use lib.Dec.{eqb, leb, leb→le}
 use lib.ListN.{length, take, drop, getD, length-append}
-use borrow.Author.Tests.{eqb-true, le-leb, not-true}
+use borrow.Author.Tests.{eqb-true, not-true}
 use Rattle.calendar.proofs.Each.{below}
 use Rattle.calendar.proofs.range.Laws.{range}
 use Rattle.calendar.specs.Range.{between}
 use Rattle.dating.proofs.Tests.{tested}
 use Rattle.dating.proofs.Told.{OneReading, number-told, number-untold}
 use Rattle.dating.proofs.numeral.Laws.{one-number, numeral-lacks}
-use Rattle.dating.proofs.text.Laws.{no-false, starts-append, has-append, has-here, one-cut, same-bytes, cut, known-cut}
-use Rattle.dating.proofs.word.Laws.{stands, stands-not}
+use Rattle.dating.proofs.text.Laws.{no-false, starts-append, stands, stands-not, has-append, has-here, one-cut, same-bytes, cut, known-cut}
 use Rattle.dating.specs.Anchor.{Anchor, feast, date, feastWord, spellAnchor, GoodAnchor, anchors}
 use Rattle.dating.specs.Numeral.{numeral}
-use Rattle.dating.specs.Steps.{starts, has, BehindLast, Guess, numerals, feastWords, wordOf, taken}
+use Rattle.dating.specs.Steps.{starts, has, BehindLast, Guess, numerals, feastWords, taken}
 use Rattle.dating.specs.Text.{space, point}
 use Rattle.dating.specs.Told.{Told, produced, unproduced}
 
@@ -55,16 +54,15 @@ module _ (f : ℕ) (low : 1 ≤ f) (high : f ≤ 48) where
   unfolding worded
   feast-lacks-point = not-true _ (all-worded 3)
 
-  its-word : wordOf f ≡ feastWord f
-  unfolding wordOf
-  its-word = rw (le-leb f 48 high)
-
 abbrev pub Names : List ℕ → ℕ → Type 0
 Names s n = feastWord n ≡ s
 
+pub guess-small : (i : ℕ) → i < 128 → getD feastAt i 0 ≤ 48
+guess-small i h = leb→le (getD feastAt i 0) 48 (below (λ i. leb (getD feastAt i 0) 48) 128 tt i h)
+
 pub guess : (s : List ℕ) → Guess 48 (Names s) (getD feastAt (slotOf s) 0)
 guess s = record {
-  small = leb→le _ 48 (below (λ i. leb (getD feastAt i 0) 48) 128 tt (slotOf s) (omega arith));
+  small = guess-small (slotOf s) (omega arith);
   only = λ n low high e. rw e at (its-slot n low high);
 }
 
@@ -79,22 +77,21 @@ module _ (s : List ℕ) (r : ℕ) (g : Guess 48 (Names s) r) where
       differs (omega (arith, good)) (rw (← same) at e)) refl
 
   module _ (low : 1 ≤ r) where
-    word-stands : feastWord r ≡ s → starts (wordOf r) s ≡ true
-    word-stands e = rw (its-word r low (g .small), ← e) (rw append-nil at (starts-append (feastWord r) []))
+    word-stands : feastWord r ≡ s → starts (feastWord r) s ≡ true
+    word-stands e = rw (← e) (rw append-nil at (starts-append (feastWord r) []))
 
-    pub not-there : taken (wordOf r) s ≡ 0 → Told feastWords (λ n. n) 0 s 0
+    pub not-there : taken (feastWord r) s ≡ 0 → Told feastWords (λ n. n) 0 s 0
     not-there none =
-        let small = g .small in
-        no-feast (λ h e. no-false (sym (word-stands e) ∙ stands-not r low (omega arith) s none))
+        let long = its-length r low (g .small) in
+        no-feast (λ h e. no-false (sym (word-stands e) ∙ stands-not (feastWord r) s (omega arith) none))
 
-    pub not-all : (taken (wordOf r) s ≡ length s → ⊥) → Told feastWords (λ n. n) 0 s 0
-    not-all differs = no-feast (λ h e. differs (rw (word-stands e) (ap length (its-word r low (g .small) ∙ e))))
+    pub not-all : (taken (feastWord r) s ≡ length s → ⊥) → Told feastWords (λ n. n) 0 s 0
+    not-all differs = no-feast (λ h e. differs (rw (word-stands e) (ap length e)))
 
-    pub a-feast : (taken (wordOf r) s ≡ 0 → ⊥) → taken (wordOf r) s ≡ length s → Told feastWords (λ n. n) 0 s r
+    pub a-feast : (taken (feastWord r) s ≡ 0 → ⊥) → taken (feastWord r) s ≡ length s → Told feastWords (λ n. n) 0 s r
     a-feast some all =
-        let small = g .small in
-        let there = stands r low (omega arith) s some in
-        produced r (low, small) (sym (its-word r low small) ∙ same-bytes (wordOf r) s (there .0) (sym (there .1) ∙ all)) refl
+        let there = stands (feastWord r) s some in
+        produced r (low, g .small) (same-bytes (feastWord r) s (there .0) (sym (there .1) ∙ all)) refl
 
 pub guess-none : (s : List ℕ) (r : ℕ) → Guess 48 (Names s) r → r ≡ 0 → Told feastWords (λ n. n) 0 s 0
 guess-none s r g z = no-feast s r g (λ low e. omega arith)

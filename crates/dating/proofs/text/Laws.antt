@@ -1,5 +1,5 @@
 -- Words at the start of bytes, and bytes cut behind the last of a kind.
-use mathlib.Core.Bool.{Bool, true, false, _&&_, _||_}
+use mathlib.Core.Bool.{Bool, true, false, _&&_, _||_, cond}
 use mathlib.Core.List.{List, [], _∷_, _++_, append-nil}
 use mathlib.Core.Path.{_≡_, refl, sym, _∙_, ap, ap₂}
 use Prim.Native.Nat.{ℕ, suc, _+_, _-_, _<_, _≤_}
@@ -10,7 +10,7 @@ use lib.Dec.{eqb}
 use lib.ListN.{length, take, drop, getD, length-drop, take-append-drop, drop-of-length-le, List·getD-append}
 use lib.Seq.{drop-cons, drop-length, split-at, take-all}
 use borrow.Author.Tests.{eq-eqb, ne-eqb, eqb-true}
-use Rattle.dating.specs.Steps.{starts, has, BehindLast}
+use Rattle.dating.specs.Steps.{starts, taken, has, BehindLast}
 
 pub no-false : {A : Type 0} → true ≡ false → A
 no-false e = let z : _≡_ {A = ℕ} 0 1 = cc in absurd (omega arith)
@@ -65,6 +65,32 @@ same-bytes w s e l =
     let all : length s ≤ length w = omega arith in
     let none = drop-of-length-le s all in
     sym (append-nil w) ∙ rw none at (begun w s e)
+
+pub starts-both : (a b s : List ℕ) → starts (a ++ b) s ≡ (starts a s && starts b (drop (length a) s))
+unfolding starts
+starts-both [] b s = refl
+starts-both (x ∷ a) b [] = refl
+starts-both (x ∷ a) b (y ∷ s) = go (eqb x y) (starts-both a b s)
+  where
+    go : (p : Bool) → starts (a ++ b) s ≡ (starts a s && starts b (drop (length a) s)) → (p && starts (a ++ b) s) ≡ ((p && starts a s) && starts b (drop (length a) s))
+    go true e = e
+    go false e = refl
+
+-- what is taken tells whether the word stands there
+module _ (w s : List ℕ) where
+  pub stands-not : 1 ≤ length w → taken w s ≡ 0 → starts w s ≡ false
+  stands-not some e = go (starts w s) refl e
+    where
+      go : (b : Bool) → starts w s ≡ b → cond b (length w) 0 ≡ 0 → starts w s ≡ false
+      go true h z = absurd (omega arith)
+      go false h z = h
+
+  pub stands : (taken w s ≡ 0 → ⊥) → (starts w s ≡ true) × (taken w s ≡ length w)
+  stands some = go (starts w s) refl some
+    where
+      go : (b : Bool) → starts w s ≡ b → (cond b (length w) 0 ≡ 0 → ⊥) → (starts w s ≡ true) × (taken w s ≡ length w)
+      go true h z = (h, rw h)
+      go false h z = absurd (z refl)
 
 -- ---- what a byte does not stand in
 pub has-append : (c : ℕ) (a b : List ℕ) → has c a ≡ false → has c b ≡ false → has c (a ++ b) ≡ false

@@ -1,20 +1,21 @@
 -- Wrappers: by their numbers, told apart by three bytes, and each ends in a space.
-use mathlib.Core.Bool.{Bool, true, false, cond}
+use mathlib.Core.Bool.{Bool, true, false, _&&_, cond}
 use mathlib.Core.List.{List, [], _∷_, _++_}
 use mathlib.Core.Path.{_≡_, refl, sym, _∙_, ap}
 use Prim.Native.Nat.{ℕ, _+_, _-_, _*_, _%_, _<_, _≤_}
 use native.Mathlib.Omega.{arith}
 use lib.Dec.{eqb, leb, ltb, leb→le}
-use lib.ListN.{length, drop, getD}
-use borrow.Author.Tests.{eqb-true, leb-true, lt-leb, ltb-true, ltb-false, lt-ltb, le-ltb}
+use lib.ListN.{length, take, drop, getD, length-append}
+use borrow.Author.Tests.{eqb-true, leb-true, ltb-true, ltb-false, lt-ltb, le-ltb}
 use Rattle.calendar.proofs.Each.{below}
 use Rattle.dating.proofs.Tests.{tested}
-use Rattle.dating.proofs.text.Laws.{no-false, too-short, begun, same-byte, starts-append}
-use Rattle.dating.proofs.word.Laws.{stands, stands-not}
-use Rattle.dating.specs.Steps.{starts, Guess, leadings, lead, wrapperOf, wordOf, taken}
+use Rattle.dating.proofs.text.Laws.{no-false, too-short, begun, same-byte, same-bytes, starts-append, starts-both, stands, stands-not}
+use Rattle.dating.specs.Steps.{starts, Guess, leadings, lead, wrapperOf, taken}
+use Rattle.dating.specs.Text.{bytes}
 use Rattle.dating.specs.Told.{Told, produced, unproduced}
-use Rattle.dating.specs.Wrapper.{wrapperWords, GoodWrapper}
+use Rattle.dating.specs.Wrapper.{weekdayWord, sideWord, wrapperWords, GoodWrapper}
 use Rattle.calendar.specs.declared.weekday.Side.the-variants.{After, Before}
+use Rattle.calendar.specs.declared.weekday.Side.{Side}
 use Rattle.dating.specs.declared.wrapper.Lead.the-variants.{Wrapped, Plain}
 use Rattle.dating.specs.declared.wrapper.Lead.{Lead}
 use Rattle.dating.specs.declared.wrapper.Wrapper.the-variants.{Eve, Morrow, Octave, First}
@@ -78,9 +79,12 @@ module _ (n : ℕ) (low : 1 ≤ n) (high : n ≤ 17) where
 abbrev pub Begins : List ℕ → ℕ → Type 0
 Begins s n = starts (wrapperWords (wrapperOf n)) s ≡ true
 
+pub guess-small : (i : ℕ) → i < 32 → getD wrapperAt i 0 ≤ 17
+guess-small i h = leb→le (getD wrapperAt i 0) 17 (below (λ i. leb (getD wrapperAt i 0) 17) 32 tt i h)
+
 pub guess : (s : List ℕ) → Guess 17 (Begins s) (getD wrapperAt (slotOf s) 0)
 guess s = record {
-  small = leb→le _ 17 (below (λ i. leb (getD wrapperAt i 0) 17) 32 tt (slotOf s) (omega arith));
+  small = guess-small (slotOf s) (omega arith);
   only = λ n low high e.
       let w = wrapperWords (wrapperOf n) in
       let long = five-bytes n low high in
@@ -96,12 +100,6 @@ no-guess s h = record {
 }
 
 -- ---- what a phrase begins with, by the word that is taken from it
-its-word : (n : ℕ) → 1 ≤ n → wordOf (48 + n) ≡ wrapperWords (wrapperOf n)
-unfolding wordOf
-its-word n low =
-    let number : 48 + n - 48 ≡ n = omega arith in
-    rw (lt-leb (48 + n) 48 (omega arith), number)
-
 module _ (s : List ℕ) (r : ℕ) (g : Guess 17 (Begins s) r) where
   -- a wrapper that stands at the start is the guessed one
   known : (w : Wrapper) (t : List ℕ) → GoodWrapper w → wrapperWords w ++ t ≡ s → (1 ≤ r) × (w ≡ wrapperOf r)
@@ -111,25 +109,88 @@ module _ (s : List ℕ) (r : ℕ) (g : Guess 17 (Begins s) r) where
       let same = g .only (numberOf w) (n .0 .0) (n .0 .1) begins in
       rw same (n .0 .0, sym (n .1))
 
-  pub lead-plain : (1 ≤ r → taken (wordOf (48 + r)) s ≡ 0) → Told leadings lead Plain s Plain
+  pub lead-plain : (1 ≤ r → taken (wrapperWords (wrapperOf r)) s ≡ 0) → Told leadings lead Plain s Plain
   lead-plain none =
       unproduced (λ x good e.
       let k = known (x .wrapper) (x .rest) good e in
-      let small = g .small in
-      let d = stands-not (48 + r) (omega arith) (omega arith) s (none (k .0)) in
-      let differs = rw (its-word r (k .0), ← k .1, ← e) at d in
-      no-false (sym (starts-append (wrapperWords (x .wrapper)) (x .rest)) ∙ differs)) refl
+      let long = five-bytes r (k .0) (g .small) in
+      let differs = stands-not (wrapperWords (wrapperOf r)) s (omega arith) (none (k .0)) in
+      no-false (sym (starts-append (wrapperWords (x .wrapper)) (x .rest)) ∙ rw (← k .1, ← e) at differs)) refl
 
-  pub lead-wrapped : 1 ≤ r → (taken (wordOf (48 + r)) s ≡ 0 → ⊥) → Told leadings lead Plain s (Wrapped (wrapperOf r) (taken (wordOf (48 + r)) s))
-  lead-wrapped low some =
+  pub lead-wrapped : (taken (wrapperWords (wrapperOf r)) s ≡ 0 → ⊥) → Told leadings lead Plain s (Wrapped (wrapperOf r) (taken (wrapperWords (wrapperOf r)) s))
+  lead-wrapped some =
       let w = wrapperWords (wrapperOf r) in
-      let small = g .small in
-      let there = stands (48 + r) (omega arith) (omega arith) s some in
-      produced (record { wrapper = wrapperOf r; rest = drop (length w) s }) (good-number r small) (begun w s (rw (its-word r low) at (there .0)))
-      (ap (Wrapped (wrapperOf r)) (there .1 ∙ ap length (its-word r low)))
+      let there = stands w s some in
+      produced (record { wrapper = wrapperOf r; rest = drop (length w) s }) (good-number r (g .small)) (begun w s (there .0))
+      (ap (Wrapped (wrapperOf r)) (there .1))
 
 -- no wrapper's words begin another's
 pub one-wrapper : (v w : Wrapper) (a b : List ℕ) → GoodWrapper v → GoodWrapper w → wrapperWords v ++ a ≡ wrapperWords w ++ b → v ≡ w
 one-wrapper v w a b gv gw e =
     let s = wrapperWords w ++ b in
     known s _ (guess s) v a gv e .1 ∙ sym (known s _ (guess s) w b gw refl .1)
+
+-- ---- a weekday before the words of a side
+abbrev pub weekdays : List ℕ
+weekdays = bytes "montuewedthufrisatsun"
+
+abbrev pub cutWeekday : ℕ → List ℕ
+cutWeekday w = take (3 * w - (3 * w - 3)) (drop (3 * w - 3) weekdays)
+
+weekday-found : ℕ → List Bool
+weekday-found w = starts (cutWeekday w) (weekdayWord w) ∷ eqb (length (cutWeekday w)) (length (weekdayWord w)) ∷ eqb (length (weekdayWord w)) 3 ∷ []
+
+side-some : (x : Side) → 1 ≤ length (sideWord x)
+side-some After = omega arith
+side-some Before = omega arith
+
+pub side-small : (x : Side) (s : List ℕ) (n : ℕ) → n ≡ taken (sideWord x) s → n ≤ 8
+side-small x s n e = rw e (go x (starts (sideWord x) s))
+  where
+    go : (x : Side) (b : Bool) → cond b (length (sideWord x)) 0 ≤ 8
+    go After true = omega arith
+    go Before true = omega arith
+    go x false = omega arith
+
+module _ (x : Side) (w : ℕ) (low : 1 ≤ w) (high : w ≤ 7) (s : List ℕ) where
+  its-weekday : (i : ℕ) → getD (weekday-found w) i true ≡ true
+  unfolding weekday-found starts
+  its-weekday i = tested weekday-found 7 tt w low high i
+
+  three-bytes : length (weekdayWord w) ≡ 3
+  unfolding weekday-found
+  three-bytes = eqb-true _ 3 (its-weekday 2)
+
+  is-cut : cutWeekday w ≡ weekdayWord w
+  unfolding weekday-found
+  is-cut = same-bytes (cutWeekday w) (weekdayWord w) (its-weekday 0) (eqb-true _ _ (its-weekday 1))
+
+  abbrev words : List ℕ
+  words = weekdayWord w ++ sideWord x
+
+  pub weekday-short : length s < 3 → 0 ≡ taken words s
+  weekday-short h =
+      let long = length-append (weekdayWord w) (sideWord x) in
+      let three = three-bytes in
+      rw (too-short words s (omega arith))
+
+  pub no-weekday : starts (cutWeekday w) s ≡ false → 0 ≡ taken words s
+  no-weekday e = rw (starts-both (weekdayWord w) (sideWord x) s, rw is-cut at e)
+
+  module _ (n : ℕ) (t : n ≡ taken (sideWord x) (drop 3 s)) where
+    pub no-side : n ≡ 0 → 0 ≡ taken words s
+    no-side z =
+        let e = stands-not (sideWord x) (drop 3 s) (side-some x) (sym t ∙ z) in
+        rw (starts-both (weekdayWord w) (sideWord x) s, three-bytes, e) (none (starts (weekdayWord w) s))
+      where
+        none : (b : Bool) → 0 ≡ cond (b && false) (length words) 0
+        none true = refl
+        none false = refl
+
+    pub weekday-stands : starts (cutWeekday w) s ≡ true → (n ≡ 0 → ⊥) → 3 + n ≡ taken words s
+    weekday-stands e some =
+        let there = stands (sideWord x) (drop 3 s) (λ z. some (t ∙ z)) in
+        let long = length-append (weekdayWord w) (sideWord x) in
+        let three = three-bytes in
+        let count = t ∙ there .1 in
+        rw (starts-both (weekdayWord w) (sideWord x) s, three-bytes, rw is-cut at e, there .0) (omega arith)

@@ -1,8 +1,11 @@
 use native.Mathlib.Omega.{arith}
 use borrow.Author.Needs.{needs}
-use Rattle.dating.proofs.anchor.Laws.{guess, no-guess}
+use Rattle.dating.proofs.anchor.Laws.{guess-small, guess, no-guess}
 use Rattle.dating.proofs.anchor.feast_guess.Statement.{statement}
 use Rattle.dating.proofs.anchor.feast_guess.Tie as tie
+
+returns-3 : tie.Need-returns-3
+returns-3 c = rw (c .slot .ensures) (guess (c .before .before .before .before .before .before .args .word .now))
 
 returns : tie.Need-returns
 returns c = no-guess _ (λ l. omega (arith, l, c .if1 .taken))
@@ -10,8 +13,8 @@ returns c = no-guess _ (λ l. omega (arith, l, c .if1 .taken))
 returns-2 : tie.Need-returns-2
 returns-2 c = no-guess _ (λ l. omega (arith, l, c .if2 .taken))
 
-returns-3 : tie.Need-returns-3
-returns-3 c = rw (c .slot .ensures) (guess (c .before .before .before .before .before .before .args .word .now))
+cast-result : tie.Need-cast-result
+cast-result c = omega (arith, guess-small (c .slot .result) (omega (arith, c .slot .ensures)))
 
 pub feast-guess-spec : {M : Type 1} → statement M
 feast-guess-spec =
@@ -24,5 +27,5 @@ feast-guess-spec =
     (λ c. search needs)
     (λ c κs. search needs)
     (λ c. search needs)
-    (λ c. search needs)
+    cast-result
     returns-3)

@@ -10,23 +10,23 @@ found c = omega (arith, c .before .feast-guess .ensures .small)
 
 returns-4 : tie.Need-returns-4
 returns-4 c =
-    a-feast _ _ (c .before .before .before .before .feast-guess .ensures) (found (c .before .before .before) .0) (rw (c .before .before .word-taken .ensures) at (c .before .if2 .left)) (rw (c .before .before .word-taken .ensures) at (c .if3 .left))
+    a-feast _ _ (c .before .before .before .before .feast-guess .ensures) (found (c .before .before .before) .0) (rw (c .before .before .feast-taken .ensures) at (c .before .if2 .left)) (rw (c .before .before .feast-taken .ensures) at (c .if3 .left))
 
 returns : tie.Need-returns
 returns c = guess-none _ _ (c .before .feast-guess .ensures) (c .if1 .taken)
 
 returns-2 : tie.Need-returns-2
 returns-2 c =
-    not-there _ _ (c .before .before .before .feast-guess .ensures) (found (c .before .before) .0) (rw (c .before .word-taken .ensures) at (c .if2 .taken))
+    not-there _ _ (c .before .before .before .feast-guess .ensures) (found (c .before .before) .0) (rw (c .before .feast-taken .ensures) at (c .if2 .taken))
 
 returns-3 : tie.Need-returns-3
 returns-3 c =
-    not-all _ _ (c .before .before .before .before .feast-guess .ensures) (found (c .before .before .before) .0) (rw (c .before .before .word-taken .ensures) at (c .if3 .taken))
+    not-all _ _ (c .before .before .before .before .feast-guess .ensures) (found (c .before .before .before) .0) (rw (c .before .before .feast-taken .ensures) at (c .if3 .taken))
 
-word-taken-requires : tie.Need-word-taken-requires
-word-taken-requires c κs = omega (arith, found c)
+feast-taken-requires : tie.Need-feast-taken-requires
+feast-taken-requires c κs = omega (arith, found c)
 
 pub feast-of-word-spec : {M : Type 1} → statement M
 feast-of-word-spec =
     tie.close
-    (tie.spec (λ c κs. search needs) returns word-taken-requires returns-2 returns-3 returns-4)
+    (tie.spec (λ c κs. search needs) returns feast-taken-requires returns-2 returns-3 returns-4)
