@@ -1,5 +1,5 @@
 -- Feast words and dates, on which the wrappers act.
-use mathlib.Core.List.{List, [], _∷_, _++_}
+use mathlib.Core.List.{List, _∷_, _++_}
 use Prim.Native.Nat.{ℕ, _≤_}
 use Prim.Native.String.{String}
 use Rattle.calendar.specs.Date.{dayInYear}

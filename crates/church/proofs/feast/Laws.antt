@@ -2,7 +2,7 @@
 use mathlib.Core.Bool.{Bool, true, false, _&&_, cond}
 use mathlib.Core.List.{List, [], _∷_}
 use mathlib.Core.Logic.{_⊎_, inl, inr}
-use mathlib.Core.Path.{_≡_, refl, sym, ap}
+use mathlib.Core.Path.{_≡_, refl}
 use Prim.Native.Nat.{ℕ, suc, pred, _+_, _-_, _≤_, _<_}
 use native.Mathlib.Omega.{arith}
 use lib.Dec.{T, leb, eqb, leb→le, eqb→eq}
@@ -12,7 +12,7 @@ use Rattle.calendar.proofs.date.Dates.{date-bounds, Dated, year-of}
 use Rattle.calendar.proofs.date.Laws as date-laws
 use Rattle.calendar.proofs.date.Laws.{has-day, date-in-span, answered}
 use Rattle.calendar.proofs.range.Laws.{range}
-use Rattle.calendar.proofs.refusal.Laws.{no-day, passed}
+use Rattle.calendar.proofs.refusal.Laws.{passed}
 use Rattle.calendar.proofs.span.Laws.{within-span, span-small, served-small, served-range}
 use Rattle.calendar.proofs.weekday.Laws.{is-later}
 use Rattle.calendar.proofs.year.Laws.{new-year-closed}
@@ -26,7 +26,7 @@ use Rattle.calendar.specs.Year.{named, leap, newYear, firstYear, served}
 use Rattle.church.proofs.easter.Laws.{easter-served, year-in-span, year-long, before-easter, after-easter}
 use Rattle.church.specs.Easter.{easter, hasEaster}
 use Rattle.church.specs.Feast.{Rule, before, after, on, advent, rule, adventSunday, hungDay, ruleDay, feastInYear, feastOfYear}
-use Rattle.calendar.specs.declared.refusal.Refusal.the-variants.{Name, Year, Date, Span}
+use Rattle.calendar.specs.declared.refusal.Refusal.the-variants.{Name, Year, Span}
 use Rattle.calendar.specs.declared.refusal.Refusal.{Refusal}
 use Rattle.calendar.specs.declared.span.DayAnswer.the-variants.{Day, NoDay}
 use Rattle.calendar.specs.declared.span.DayAnswer.{DayAnswer}

@@ -1,7 +1,7 @@
 -- Endings and lines: each has one reading, and a line tells what its phrase tells in the year that its ending names.
-use mathlib.Core.Bool.{true, false}
+use mathlib.Core.Bool.{false}
 use mathlib.Core.List.{List, [], _∷_, _++_, append-assoc}
-use mathlib.Core.Path.{_≡_, refl, sym, _∙_, ap, ap₂}
+use mathlib.Core.Path.{_≡_, refl, sym, _∙_, ap}
 use Prim.Native.Nat.{ℕ, _+_, _-_, _<_, _≤_}
 use native.Mathlib.Omega.{arith}
 use lib.ListN.{length, take, drop, getD, length-append}
@@ -16,7 +16,7 @@ use Rattle.dating.proofs.phrase.Laws.{one-phrase}
 use Rattle.dating.proofs.text.Laws.{no-false, one-cut, cut, known-cut, last-two}
 use Rattle.dating.specs.Line.{Line, ending, GoodYear, spellLine, GoodLine, lines, lineDay, LineTold, unfit, fit, IsDayOfLine}
 use Rattle.dating.specs.Numeral.{numeral}
-use Rattle.dating.specs.Phrase.{Phrase, spellPhrase, phrases, phraseDay}
+use Rattle.dating.specs.Phrase.{spellPhrase, phrases, phraseDay}
 use Rattle.dating.specs.Steps.{has, BehindLast, numerals, letters, Ended, endings, endAt}
 use Rattle.dating.specs.Text.{space}
 use Rattle.dating.specs.Told.{Told, produced, unproduced}
@@ -69,7 +69,7 @@ split a t = append-assoc a (space ∷ numeral (t .year)) (space ∷ styleLetter 
 year-lacks-space : (t : NamedYear) → GoodYear t → has space (numeral (t .year)) ≡ false
 year-lacks-space t g = numeral-lacks space (t .year) (omega arith) (g .0) (g .1)
 
-pub one-ending : (a b : List ℕ) (t u : NamedYear) → GoodYear t → GoodYear u → a ++ ending t ≡ b ++ ending u → (a ≡ b) × (t ≡ u)
+one-ending : (a b : List ℕ) (t u : NamedYear) → GoodYear t → GoodYear u → a ++ ending t ≡ b ++ ending u → (a ≡ b) × (t ≡ u)
 one-ending a b t u g h e =
     let outer =
     one-cut space (before a t) (before b u) (styleLetter (t .style) ∷ []) (styleLetter (u .style) ∷ []) (no-space (t .style)) (no-space (u .style))
@@ -87,7 +87,7 @@ module _ (s : List ℕ) where
   abbrev pub TellsEnding : Ending → Type 0
   TellsEnding r = Told endings endAt NoEnding s r
 
-  pub unended : Ends → TellsEnding NoEnding
+  unended : Ends → TellsEnding NoEnding
   unended none = unproduced none refl
 
   -- the last two bytes of a line, and those before them

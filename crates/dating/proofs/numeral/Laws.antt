@@ -78,7 +78,7 @@ digit-at [] e i h = absurd (omega arith)
 digit-at (x ∷ s) e zero h = range 48 x 57 (both (between 48 x 57) (allDigits s) e .0)
 digit-at (x ∷ s) e (suc i) h = digit-at s (both (between 48 x 57) (allDigits s) e .1) i (omega arith)
 
-pub shape : (n : ℕ) → 1 ≤ n → n ≤ 9999 → Shape (numeral n)
+shape : (n : ℕ) → 1 ≤ n → n ≤ 9999 → Shape (numeral n)
 shape n low high =
     let l = range 1 (length (numeral n)) 4 (few-digits n low high) in
     let f = ltb-true 48 (getD (numeral n) 0 0) (no-zero n low high) in
@@ -99,11 +99,11 @@ fuel n h = go (ltb n 10) (ltb (n / 10) 10) refl
     go false true e = refl
     go false false e = rw (lt-ltb (n / 10 / 10) 10 (omega arith))
 
-pub one-digit : (d : ℕ) → d ≤ 9 → numeral d ≡ digit d ∷ []
+one-digit : (d : ℕ) → d ≤ 9 → numeral d ≡ digit d ∷ []
 unfolding decimal
 one-digit d h = rw (lt-ltb d 10 (omega arith))
 
-pub grown : (n d : ℕ) → 1 ≤ n → n ≤ 999 → d ≤ 9 → numeral (10 * n + d) ≡ numeral n ++ digit d ∷ []
+grown : (n d : ℕ) → 1 ≤ n → n ≤ 999 → d ≤ 9 → numeral (10 * n + d) ≡ numeral n ++ digit d ∷ []
 unfolding decimal
 grown n d low high h =
     let q : (10 * n + d) / 10 ≡ n = omega arith in

@@ -2,7 +2,7 @@
 use mathlib.Core.Bool.{Bool, true, false}
 use mathlib.Core.List.{List, [], _∷_, _++_, append-assoc, append-nil}
 use mathlib.Core.Path.{_≡_, refl, sym, _∙_, ap, subst}
-use Prim.Native.Nat.{ℕ, _+_, _-_, _<_, _≤_}
+use Prim.Native.Nat.{ℕ, _+_, _-_, _≤_}
 use native.Mathlib.Decide.{decLt}
 use native.Mathlib.Omega.{arith}
 use lib.ListN.{length, take, drop, length-append}
@@ -14,8 +14,8 @@ use Rattle.dating.proofs.anchor.Laws.{lacks-space, anchor-some}
 use Rattle.dating.proofs.line.Laws.{TellsEnding, no-ending, ending-of, its-phrase, one-answer}
 use Rattle.dating.proofs.phrase.Laws.{spaced}
 use Rattle.dating.proofs.text.Laws.{no-false, has-here, cut, known-cut}
-use Rattle.dating.specs.Anchor.{Anchor, spellAnchor, GoodAnchor}
-use Rattle.dating.specs.Line.{Line, ending, spellLine, GoodLine, lines, lineDay, LineTold, unfit, fit, IsDayOfLine}
+use Rattle.dating.specs.Anchor.{spellAnchor, GoodAnchor}
+use Rattle.dating.specs.Line.{Line, ending, spellLine, lines, lineDay, unfit, fit, IsDayOfLine}
 use Rattle.dating.specs.Part.{Part, bytesBefore, anchorPart, emptyPart, ifAccepted, linePart, IsPart, placeOf, IsPlace, PartOf}
 use Rattle.dating.specs.Phrase.{Phrase, plain, wrapped, spellPhrase, GoodPhrase, anchorOf}
 use Rattle.dating.specs.Steps.{has, BehindLast}
@@ -61,7 +61,7 @@ leads-end w (wrapped v p) =
     (wrapperWords w ++ x .0, ap (λ (s : List ℕ). wrapperWords w ++ s) (x .1) ∙ sym (append-assoc (wrapperWords w) (x .0) (space ∷ [])))
 
 -- the feast word or date is the last word of its phrase
-pub last-word : (p : Phrase) (i : ℕ) → GoodPhrase p → BehindLast space (spellPhrase p) i → i ≡ bytesBefore p
+last-word : (p : Phrase) (i : ℕ) → GoodPhrase p → BehindLast space (spellPhrase p) i → i ≡ bytesBefore p
 unfolding spellPhrase anchorOf bytesBefore GoodPhrase
 last-word (plain a) i g b =
     elim (decLt 0 i) [
@@ -79,7 +79,7 @@ last-word (wrapped w p) i g b =
     let long = sym (leads-long (wrapped w p)) ∙ ap length (x .1) ∙ length-append (x .0) (space ∷ []) in
     omega (arith, k .0)
 
-pub phrase-long : (p : Phrase) → length (spellPhrase p) ≡ bytesBefore p + length (spellAnchor (anchorOf p))
+phrase-long : (p : Phrase) → length (spellPhrase p) ≡ bytesBefore p + length (spellAnchor (anchorOf p))
 phrase-long p = sym (ap length (its-leads p)) ∙ length-append (leads p) (spellAnchor (anchorOf p)) ∙ rw (leads-long p)
 
 -- ---- the place of the part
@@ -111,7 +111,7 @@ module _ (s : List ℕ) where
         fit h (produced l g e (rw (← m) (λ j. record { start = start j; end = stop j })))
 
   -- the part whose place it is
-  pub its-part : (r : Place) → IsPlace s r → (p : Part) × IsPart s p × (r ≡ placeOf p)
+  its-part : (r : Place) → IsPlace s r → (p : Part) × IsPart s p × (r ≡ placeOf p)
   its-part r (unfit h m) = (emptyPart, unfit h refl, m)
   its-part r (fit h (produced l g e m)) = (linePart l, fit h (produced l g e refl), m)
   its-part r (fit h (unproduced none m)) = (emptyPart, fit h (unproduced none refl), m)
@@ -140,7 +140,7 @@ module _ (s : List ℕ) where
 
 -- the slice between a part's places is the part
 module _ (s : List ℕ) where
-  pub part-bytes : (p : Part) → IsPart s p → take (placeOf p .end - placeOf p .start) (drop (placeOf p .start) s) ≡ p .text
+  part-bytes : (p : Part) → IsPart s p → take (placeOf p .end - placeOf p .start) (drop (placeOf p .start) s) ≡ p .text
   part-bytes p h =
       let count : p .start + length (p .text) - p .start ≡ length (p .text) = omega arith in
       rw count (stands s p h .1)

@@ -17,7 +17,6 @@ use Rattle.dating.specs.Wrapper.{weekdayWord, sideWord, wrapperWords, Go
 use Rattle.calendar.specs.declared.weekday.Side.the-variants.{After, Before}
 use Rattle.calendar.specs.declared.weekday.Side.{Side}
 use Rattle.dating.specs.declared.wrapper.Lead.the-variants.{Wrapped, Plain}
-use Rattle.dating.specs.declared.wrapper.Lead.{Lead}
 use Rattle.dating.specs.declared.wrapper.Wrapper.the-variants.{Eve, Morrow, Octave, First}
 use Rattle.dating.specs.declared.wrapper.Wrapper.{Wrapper}
 

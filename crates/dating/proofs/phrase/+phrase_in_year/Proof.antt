@@ -11,7 +11,7 @@ use Rattle.dating.specs.Phrase.{phrases, phraseDay}
 use Rattle.dating.specs.Steps.{leadings, lead}
 use Rattle.dating.specs.Told.{Told}
 use Rattle.calendar.specs.declared.refusal.Refusal.the-variants.{Form}
-use Rattle.calendar.specs.declared.span.DayAnswer.the-variants.{Day, NoDay}
+use Rattle.calendar.specs.declared.span.DayAnswer.the-variants.{NoDay}
 use Rattle.dating.specs.declared.wrapper.Lead.the-variants.{Wrapped, Plain}
 use Rattle.dating.proofs.anchor.anchor_in_year.Reads as anchor-in-year-reads
 use Rattle.dating.proofs.phrase.+phrase_in_year.Lts-phrase_in_year as lts
