@@ -24,6 +24,9 @@ fn line_start() -> Place
 pub fn place_of_part(line: &[u8]) -> Place
     ensures { λ r. ⌜ IsPlace (now (line .entry)) r ⌝ }
 {
+    if line.len() > 120 {
+        return line_start();
+    }
     let Ending::At(end, _) = ending_of(line) else {
         return line_start();
     };
