@@ -93,7 +93,7 @@ unfolding lineDay
 year-served l n e = phrase-laws.phrase-served (l .named) (l .phrase) n e
 
 -- the numbers that a phrase of the grammar can be answered by
-abbrev PhraseNumber : ℕ → Type 0
+abbrev pub PhraseNumber : ℕ → Type 0
 PhraseNumber n = (n ≡ 4) ⊎ ((n ≡ 5) ⊎ ((n ≡ 6) ⊎ ((1721424 ≤ n) × (n ≤ 5373557))))
 
 phrase-number : (t : NamedYear) (p : Phrase) (a : DayAnswer) → phraseDay t p ≡ a → later a ≡ true → PhraseNumber (dayOrRefusal a)

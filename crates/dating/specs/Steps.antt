@@ -31,6 +31,11 @@ starts (x ∷ w) (y ∷ s) = eqb x y && starts w s
 abbrev pub taken : List ℕ → List ℕ → ℕ
 taken w s = cond (starts w s) (length w) 0
 
+-- a test tells whether a fact holds
+abbrev pub Tells : Bool → Type 0 → Type 0
+Tells true Fact = Fact
+Tells false Fact = Fact → ⊥
+
 -- the byte c stands in s
 unfoldable pub has : ℕ → List ℕ → Bool
 has c [] = false

@@ -1,7 +1,7 @@
 // Feast words and dates, on which the wrappers act.
 use crate::numeral::number_of;
 use crate::text::behind_last;
-use crate::word::feast_taken;
+use crate::word::is_feast_word;
 use calendar::date::day_in_year;
 use calendar::refusal::Refusal;
 use calendar::span::DayAnswer;
@@ -178,11 +178,7 @@ fn feast_of_word(word: &[u8]) -> u64
     if number == 0 {
         return 0;
     }
-    let length = feast_taken(word, number);
-    if length == 0 {
-        return 0;
-    }
-    if length != word.len() {
+    if !is_feast_word(word, number) {
         return 0;
     }
     number as u64

@@ -7,7 +7,6 @@ use calendar::span::DayAnswer;
 use calendar::style::Style;
 use calendar::style::StyleAnswer;
 use calendar::year::NamedYear;
-ghost use mathlib.Core.Path.{_≡_};
 ghost use mathlib.Core.List.{[], _∷_};
 ghost use Rattle.calendar.specs.declared.refusal.Refusal.the-variants.{Form};
 ghost use Rattle.calendar.specs.declared.style.StyleAnswer.the-variants.{Known, NoStyle};

@@ -1,5 +1,4 @@
 // Numerals of the line.
-ghost use mathlib.Core.Path.{_≡_};
 ghost use Prim.Native.Nat.{_≤_};
 ghost use Rattle.dating.specs.Steps.{numerals};
 ghost use Rattle.dating.specs.Told.{Told};

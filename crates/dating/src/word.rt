@@ -1,9 +1,9 @@
-// The text of the feast words. It and the tables are laid on the stack where they are read, so they are kept small.
-use crate::text::word_taken;
+// The feast words in one text.
+use crate::text::starts_with;
 ghost use mathlib.Core.Path.{_≡_};
 ghost use Prim.Native.Nat.{_≤_};
 ghost use Rattle.dating.specs.Anchor.{feastWord};
-ghost use Rattle.dating.specs.Steps.{taken};
+ghost use Rattle.dating.specs.Steps.{Tells};
 
 // Where the feast words begin in the text, and where one more would.
 const WORD_AT: [u16; 49] = [
@@ -58,14 +58,17 @@ const WORD_AT: [u16; 49] = [
     408, // behind the last
 ];
 
-// How many bytes the word of a feast takes at the start; 0 where it does not stand there.
-pub(crate) fn feast_taken(text: &[u8], feast: usize) -> usize
+// Whether the bytes are the word of a feast.
+pub(crate) fn is_feast_word(word: &[u8], feast: usize) -> bool
     requires { ⌜ (1 ≤ feast) × (feast ≤ 48) ⌝ }
-    ensures { λ r. ⌜ r ≡ taken (feastWord feast) (now (text .entry)) ⌝ }
+    ensures { λ r. ⌜ Tells r (feastWord feast ≡ now (word .entry)) ⌝ }
 {
     let words: &[u8] =
         b"septuagesima,sexagesima,estomihi,ashes,invocavit,reminiscere,oculi,laetare,judica,palms,cena,parasceve,easter,quasimodo,misericordia,jubilate,cantate,rogate,ascension,exaudi,pentecost,trinity,corpus,circumcision,epiphany,candlemas,matthias,annunciation,mark,philip,baptist,peter,magdalene,james,laurence,assumption,bartholomew,matthew,michael,luke,simon,saints,martin,andrew,nicholas,thomas,christmas,advent";
     let start = WORD_AT[feast - 1] as usize;
     let end = WORD_AT[feast] as usize - 1;
-    word_taken(text, &words[start..end])
+    if word.len() != end - start {
+        return false;
+    }
+    starts_with(word, &words[start..end])
 }

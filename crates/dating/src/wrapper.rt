@@ -1,4 +1,4 @@
-// Wrappers: recognised by three bytes and one comparison, and how each moves a day.
+// Wrappers: each is told by three bytes and then compared, and moves a day in its own way.
 use crate::text::starts_with;
 use crate::text::word_taken;
 use calendar::span::DayAnswer;
@@ -86,7 +86,7 @@ fn wrapper_guess(phrase: &[u8]) -> usize
     WRAPPER_AT[i] as usize
 }
 
-// The wrappers in the order of their numbers, from 1 to 17.
+// The wrapper with a number from 1 to 17.
 fn wrapper_of(number: usize) -> Wrapper
     ensures { λ r. ⌜ r ≡ wrapperOf number ⌝ }
 {
@@ -105,7 +105,7 @@ fn wrapper_of(number: usize) -> Wrapper
     Wrapper::First(Side::Before, (number - 10) as u64)
 }
 
-// How many bytes the words of a side take at the start; 0 where they do not stand there.
+// How many bytes the word of a side takes at the start; 0 where it does not stand there.
 fn side_taken(text: &[u8], side: Side) -> usize
     ensures { λ r. ⌜ r ≡ taken (sideWord side) (now (text .entry)) ⌝ }
 {
@@ -115,7 +115,7 @@ fn side_taken(text: &[u8], side: Side) -> usize
     }
 }
 
-// How many bytes a weekday and the words of a side take at the start; 0 where they do not stand there.
+// How many bytes a weekday and the word of a side take at the start; 0 where they do not stand there.
 fn weekday_taken(text: &[u8], side: Side, weekday: u64) -> usize
     requires { ⌜ (1 ≤ weekday) × (weekday ≤ 7) ⌝ }
     ensures { λ r. ⌜ r ≡ taken (weekdayWord weekday ++ sideWord side) (now (text .entry)) ⌝ }

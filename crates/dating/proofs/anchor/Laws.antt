@@ -1,6 +1,6 @@
 -- Feast words and dates: each is told apart from all others, and neither has a space.
 use mathlib.Core.Bool.{Bool, true, false, not}
-use mathlib.Core.List.{List, [], _∷_, _++_, append-nil}
+use mathlib.Core.List.{List, [], _∷_, _++_}
 use mathlib.Core.Path.{_≡_, refl, sym, _∙_, ap, ap₂}
 use Prim.Native.Nat.{ℕ, _+_, _-_, _*_, _%_, _<_, _≤_}
 use native.Mathlib.Omega.{arith}
@@ -13,10 +13,10 @@ use Rattle.calendar.specs.Range.{between}
 use Rattle.dating.proofs.Tests.{tested}
 use Rattle.dating.proofs.Told.{OneReading, number-told, number-untold}
 use Rattle.dating.proofs.numeral.Laws.{one-number, numeral-lacks}
-use Rattle.dating.proofs.text.Laws.{no-false, starts-append, stands, stands-not, has-append, has-here, one-cut, same-bytes, cut, known-cut}
+use Rattle.dating.proofs.text.Laws.{no-false, has-append, has-here, one-cut, cut, known-cut}
 use Rattle.dating.specs.Anchor.{Anchor, feast, date, feastWord, spellAnchor, GoodAnchor, anchors}
 use Rattle.dating.specs.Numeral.{numeral}
-use Rattle.dating.specs.Steps.{starts, has, BehindLast, Guess, numerals, feastWords, taken}
+use Rattle.dating.specs.Steps.{has, BehindLast, Guess, numerals, feastWords}
 use Rattle.dating.specs.Text.{space, point}
 use Rattle.dating.specs.Told.{Told, produced, unproduced}
 
@@ -76,22 +76,11 @@ module _ (s : List ℕ) (r : ℕ) (g : Guess 48 (Names s) r) where
       let same = g .only n (good .0) (good .1) e in
       differs (omega (arith, good)) (rw (← same) at e)) refl
 
-  module _ (low : 1 ≤ r) where
-    word-stands : feastWord r ≡ s → starts (feastWord r) s ≡ true
-    word-stands e = rw (← e) (rw append-nil at (starts-append (feastWord r) []))
+  pub not-it : (feastWord r ≡ s → ⊥) → Told feastWords (λ n. n) 0 s 0
+  not-it differs = no-feast (λ low e. differs e)
 
-    pub not-there : taken (feastWord r) s ≡ 0 → Told feastWords (λ n. n) 0 s 0
-    not-there none =
-        let long = its-length r low (g .small) in
-        no-feast (λ h e. no-false (sym (word-stands e) ∙ stands-not (feastWord r) s (omega arith) none))
-
-    pub not-all : (taken (feastWord r) s ≡ length s → ⊥) → Told feastWords (λ n. n) 0 s 0
-    not-all differs = no-feast (λ h e. differs (rw (word-stands e) (ap length e)))
-
-    pub a-feast : (taken (feastWord r) s ≡ 0 → ⊥) → taken (feastWord r) s ≡ length s → Told feastWords (λ n. n) 0 s r
-    a-feast some all =
-        let there = stands (feastWord r) s some in
-        produced r (low, g .small) (same-bytes (feastWord r) s (there .0) (sym (there .1) ∙ all)) refl
+  pub is-it : 1 ≤ r → feastWord r ≡ s → Told feastWords (λ n. n) 0 s r
+  is-it low e = produced r (low, g .small) e refl
 
 pub guess-none : (s : List ℕ) (r : ℕ) → Guess 48 (Names s) r → r ≡ 0 → Told feastWords (λ n. n) 0 s 0
 guess-none s r g z = no-feast s r g (λ low e. omega arith)

@@ -131,7 +131,7 @@ module _ (s : List ℕ) (n i : ℕ) (low : 1 ≤ n) (high : n ≤ 9999) (e : num
         grown n (getD s i 0 - 48) low room (omega arith) ∙ rw (b, e, add-one, take-suc s i 0 h)
 
   module _ (all : length s ≤ i) where
-    pub whole : numeral n ≡ s
+    whole : numeral n ≡ s
     whole = e ∙ take-all i s all
 
     pub read : (top : ℕ) → n ≤ top → Told (numerals top) (λ k. k) 0 s n

@@ -1,15 +1,15 @@
 -- The text of the feast words: each is cut out where the table says.
-use mathlib.Core.Bool.{Bool, true}
-use mathlib.Core.List.{List, [], _∷_}
-use mathlib.Core.Path.{_≡_}
+use mathlib.Core.Bool.{Bool, true, false}
+use mathlib.Core.List.{List, [], _∷_, append-nil}
+use mathlib.Core.Path.{_≡_, sym, _∙_, ap}
 use Prim.Native.Nat.{ℕ, _-_, _≤_}
 use lib.Dec.{eqb, leb}
 use lib.ListN.{length, take, drop, getD}
 use borrow.Author.Tests.{eqb-true, leb-true}
 use Rattle.dating.proofs.Tests.{tested}
-use Rattle.dating.proofs.text.Laws.{same-bytes}
+use Rattle.dating.proofs.text.Laws.{no-false, same-bytes, starts-append}
 use Rattle.dating.specs.Anchor.{feastWord}
-use Rattle.dating.specs.Steps.{starts, taken}
+use Rattle.dating.specs.Steps.{starts, Tells}
 use Rattle.dating.specs.Text.{bytes}
 
 abbrev pub places : List ℕ
@@ -35,8 +35,7 @@ found n =
     ∷ leb 1 (getD places n 0)
     ∷ leb (begin n) (end n)
     ∷ leb (end n) 407
-    ∷ leb (getD places n 0) 500
-    ∷ leb (begin n) 500
+    ∷ eqb (length (cutOut n)) (end n - begin n)
     ∷ []
 
 module _ (n : ℕ) (low : 1 ≤ n) (high : n ≤ 48) where
@@ -60,10 +59,18 @@ module _ (n : ℕ) (low : 1 ≤ n) (high : n ≤ 48) where
   unfolding found
   ends = leb-true (end n) 407 (all-found 4)
 
-  pub places-small : (getD places n 0 ≤ 500) × (begin n ≤ 500)
+  its-count : length (cutOut n) ≡ end n - begin n
   unfolding found
-  places-small = (leb-true (getD places n 0) 500 (all-found 5), leb-true (begin n) 500 (all-found 6))
+  its-count = eqb-true (length (cutOut n)) (end n - begin n) (all-found 5)
 
-  -- what the word that is cut out takes
-  pub cut-taken : (s : List ℕ) → taken (cutOut n) s ≡ taken (feastWord n) s
-  cut-taken s = rw its-bytes
+  -- what the comparison with the word that is cut out tells
+  module _ (s : List ℕ) where
+    pub other-length : (length s ≡ end n - begin n → ⊥) → feastWord n ≡ s → ⊥
+    other-length differs e = differs (sym (ap length e) ∙ ap length (sym its-bytes) ∙ its-count)
+
+    pub compared : length s ≡ end n - begin n → (b : Bool) → b ≡ starts (cutOut n) s → Tells b (feastWord n ≡ s)
+    compared l true e = same-bytes (feastWord n) s (rw its-bytes at (sym e)) (ap length (sym its-bytes) ∙ its-count ∙ sym l)
+    compared l false e = λ same. no-false (sym (stands-there same) ∙ sym e)
+      where
+        stands-there : feastWord n ≡ s → starts (cutOut n) s ≡ true
+        stands-there same = rw (its-bytes, ← same) (rw append-nil at (starts-append (feastWord n) []))

@@ -1,4 +1,6 @@
-use mathlib.Core.Path.{sym}
+use mathlib.Core.Path.{_≡_, sym}
+use native.Mathlib.Omega.{arith}
+use lib.ListN.{length, take}
 use lib.Seq.{length-take-le}
 use borrow.Author.Needs.{needs}
 use Rattle.dating.proofs.line.Laws.{TellsEnding, no-bytes, too-many, line-fits, no-ending, ending-of, line-told}
@@ -23,8 +25,14 @@ returns-3 : tie.Need-returns-3
 returns-3 c =
     line-fits _ (c .before .before .before .before .if1 .left) (c .before .before .before .if2 .left) _ (no-ending _ _ (c .before .before .ending-of .ensures) (c .enum-told .given .1))
 
+size : (c : tie.After-known-told) → length (take (c .before .length .given .0 .0) (c .before .before .before .before .before .before .before .args .line .now)) ≡ (c .before .length .given .0 .0)
+size c = length-take-le _ _ (ending-of _ _ _ (ends c) .0)
+
 slice-aggregate-phrase-in-year : tie.Need-slice-aggregate-phrase-in-year
-slice-aggregate-phrase-in-year c = sym (length-take-le _ _ (ending-of _ _ _ (ends (c .before)) .0))
+slice-aggregate-phrase-in-year c = sym (size (c .before))
+
+phrase-in-year-requires : tie.Need-phrase-in-year-requires
+phrase-in-year-requires c κs = rw (size (c .before)) (omega (arith, ending-of _ _ _ (ends (c .before)) .0))
 
 pub day-of-line-spec : {M : Type 1} → statement M
 day-of-line-spec =
@@ -37,5 +45,5 @@ day-of-line-spec =
     (λ c. search needs)
     returns-3
     slice-aggregate-phrase-in-year
-    (λ c κs. search needs)
+    phrase-in-year-requires
     returns-4)

@@ -46,8 +46,17 @@ callees t = (
 )
 
 module _ (t : ℕ) where
+  -- what a phrase with no wrapper tells
+  plain : (c : lts.After-anchor-in-year (callees t) (at t) reads.Post)
+      → Told phrases (phraseDay (c .before .before .before .before .before .args .named)) (NoDay Form)
+      (c .before .before .before .before .before .args .phrase .now) (c .anchor-in-year .result)
+  plain c = plain-told _ _ _ (c .before .before .before .lead-of .ensures) (c .before .enum-told .given .1) _ (c .anchor-in-year .ensures)
+
   returns : lts.Need-returns (callees t) (at t) reads.Post
-  returns c = plain-told _ _ _ (c .before .before .before .lead-of .ensures) (c .before .enum-told .given .1) _ (c .anchor-in-year .ensures)
+  returns c = plain (c .before .before)
+
+  returns-2 : lts.Need-returns-2 (callees t) (at t) reads.Post
+  returns-2 c = rw (c .before .answer .given .1) at (plain (c .before .before .before))
 
   -- the wrapper that the phrase begins with
   begins : (c : lts.After-known-told (callees t) (at t) reads.Post)
@@ -60,16 +69,16 @@ module _ (t : ℕ) where
       (drop (c .before .before .before .wrapper .given .0 .1 .0) (c .before .before .before .before .before .before .before .args .phrase .now)) (c .phrase-in-year .result)
   tells c = rw (rest _ _) at (c .phrase-in-year .ensures)
 
-  returns-3 : lts.Need-returns-3 (callees t) (at t) reads.Post
-  returns-3 c =
+  returns-4 : lts.Need-returns-4 (callees t) (at t) reads.Post
+  returns-4 c =
       let k = c .before .before .before .before in
-      let day = c .before .before .answer .given .1 in
+      let day = c .before .before .behind .given .1 in
       rw (c .act .ensures) (wrapped-told _ _ _ (begins (k .before .before)) _ _ (rw day at (tells k)))
 
-  returns-2 : lts.Need-returns-2 (callees t) (at t) reads.Post
-  returns-2 c =
+  returns-3 : lts.Need-returns-3 (callees t) (at t) reads.Post
+  returns-3 c =
       let k = c .before .before in
-      let refusal = c .enum-told2 .given .1 in
+      let refusal = c .enum-told3 .given .1 in
       rw refusal (wrapped-told _ _ _ (begins (k .before .before)) _ _ (rw refusal at (tells k)))
 
   fits : lts.Need-sub-phrase-in-year (callees t) (at t) reads.Post
@@ -81,10 +90,12 @@ module _ (t : ℕ) where
       let n = c .before .before .wrapper .given .0 .1 .0 in
       let now : length s ≡ t = c .before .before .before .before .before .before .pre .0 in
       let behind : length (drop n s) ≡ length s - n = length-drop n s in
-      (rw (rest n s) (omega (arith, shorter _ _ _ (begins (c .before)))), tt)
+      let fits = c .before .before .before .before .before .before .pre .1 in
+      let less = shorter _ _ _ (begins (c .before)) in
+      (rw (rest n s) (omega arith), rw (rest n s) (omega arith))
 
   act-requires : lts.Need-act-requires (callees t) (at t) reads.Post
-  act-requires c κs = told-in-span _ _ _ (rw (c .before .answer .given .1) at (tells (c .before .before .before)))
+  act-requires c κs = told-in-span _ _ _ (rw (c .before .behind .given .1) at (tells (c .before .before .before)))
 
 pub +phrase-in-year-spec : {M : Type 1} → statement M
 +phrase-in-year-spec =
@@ -94,13 +105,16 @@ pub +phrase-in-year-spec : {M : Type 1} → statement M
     (λ c. search needs)
     (λ c. search needs)
     (λ c κs. search needs)
+    (λ c. search needs)
+    (λ c. search needs)
     (returns t)
+    (returns-2 t)
     (fits t)
     (fits t)
     (λ c. search needs)
     (phrase-in-year-requires t)
     (λ c. search needs)
     (λ c. search needs)
-    (returns-2 t)
-    (act-requires t)
     (returns-3 t)
+    (act-requires t)
+    (returns-4 t)
