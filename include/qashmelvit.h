@@ -1,6 +1,7 @@
 /*
  * Qashmelvit tells the day that a dating line of an old letter names, such as "tue after quasimodo 1587 G", in the Julian or in the
- * Gregorian style. Each call has one answer for every input, keeps nothing between calls, and changes no byte that it is lent.
+ * Gregorian style. Each call has one answer for every input, keeps nothing between calls, and changes no byte that it is lent. The archive
+ * libqashmelvit.a is for x86-64.
  *
  * A day is a Julian Day Number. A style is a number, and serves the days of its span:
  *
@@ -10,7 +11,7 @@
  * A call that answers a day answers the day or the number of a refusal, the lowest that holds. No day is below 1721424, so that a
  * number below that is a refusal:
  *
- *     uint32_t answer = qv_line(line, length);
+ *     uint32_t answer = qv_line((const uint8_t *)text, strlen(text));
  *     if (answer < QV_FIRST_DAY) refused(answer); else found(answer);
  *
  * A dating line is lower-case ASCII but for the style letter, has one space between its parts and none at its ends, and no line feed or
@@ -78,7 +79,8 @@ extern "C" {
 uint32_t qv_line(const uint8_t *line, size_t length);
 
 /*
- * Where in the line, given as to qv_line, its feast word or date starts, in bytes from the line's first; 0 for a line that qv_line refuses.
+ * Where the feast word or date of a line, which is passed as to qv_line, starts, in bytes from the line's first; 0 for a line that
+ * qv_line refuses.
  * A feast word or date at the line's head starts at 0 too, so that qv_line or the part's length tells whether there is one.
  * A length of 0 goes with any pointer, NULL too. No byte is changed.
  * Example: "tue after quasimodo 1587 G" answers 10.
@@ -86,7 +88,8 @@ uint32_t qv_line(const uint8_t *line, size_t length);
 size_t qv_part_start(const uint8_t *line, size_t length);
 
 /*
- * How many bytes the feast word or date of the line, given as to qv_line, has; 0 for a line that qv_line refuses, and for no other.
+ * How many bytes the feast word or date of a line, which is passed as to qv_line, has; 0 for a line that qv_line refuses, and for no
+ * other.
  * The start and this length together are never more than the line's length.
  * A length of 0 goes with any pointer, NULL too. No byte is changed.
  * Example: "tue after quasimodo 1587 G" answers 9, the bytes of "quasimodo".
@@ -108,18 +111,18 @@ uint32_t qv_feast(uint64_t style, uint64_t feast, uint64_t year);
 uint32_t qv_day(uint64_t style, uint64_t year, uint64_t month, uint64_t day);
 
 /*
- * Why the style has no weekday for the day: QV_NAME or QV_SPAN, in this order, or 0 where it has one.
+ * Why the style has no weekday for the day with this number: QV_NAME or QV_SPAN, in this order, or 0 where it has one.
  * Every number may be given.
  * Example: (1, 2415092) answers 0; (2, 2299160) answers 6.
  */
-uint32_t qv_weekday_refusal(uint64_t style, uint64_t day);
+uint32_t qv_weekday_refusal(uint64_t style, uint64_t day_number);
 
 /*
  * The weekday of a day of the style's span, 1 for Monday to 7 for Sunday; 0 where qv_weekday_refusal refuses.
  * Every number may be given.
  * Example: (1, 2415092), 29 February 1900 J, answers 2; (2, 2299160) answers 0.
  */
-uint32_t qv_weekday(uint64_t style, uint64_t day);
+uint32_t qv_weekday(uint64_t style, uint64_t day_number);
 
 /*
  * Why there is no distance from the first date to the second: the first date's refusal (QV_NAME, QV_YEAR, QV_DATE or QV_SPAN, in this

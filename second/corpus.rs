@@ -337,7 +337,7 @@ fn recased(corpus: &mut Corpus) {
     }
 }
 
-/// NUL, DEL and bytes above 127 put before or in place of each byte, and at the end; and each byte with 128 added.
+/// NUL, DEL and bytes above 127 put before or in place of each byte of every second good line, and at its end; and each byte with 128 added.
 fn foreign_bytes(corpus: &mut Corpus) {
     for line in GOOD.iter().step_by(2).map(|line| line.as_bytes()) {
         for byte in [0, 0x7f, 0x80, 0xa0, 0xff] {
