@@ -21,12 +21,13 @@ use Rattle.dating.specs.Line.{Line, spellLine, GoodLine, lineDay, LineTo
 use Rattle.dating.specs.Part.{Part, IsPart, PartOf}
 use Rattle.dating.specs.Phrase.{Phrase, plain, wrapped, anchorOf, wrappersAct, phraseDay}
 use Rattle.dating.specs.Told.{produced, unproduced}
-use Rattle.dating.specs.Wrapper.{moved}
+use Rattle.dating.specs.Wrapper.{moved, acted}
 use Rattle.calendar.specs.declared.refusal.Refusal.the-variants.{Name, Length, Form, Year, Date, Span}
 use Rattle.calendar.specs.declared.refusal.Refusal.{Refusal}
 use Rattle.calendar.specs.declared.span.DayAnswer.the-variants.{Day, NoDay}
 use Rattle.calendar.specs.declared.span.DayAnswer.{DayAnswer}
 use Rattle.calendar.specs.declared.year.NamedYear.{NamedYear}
+use Rattle.dating.specs.declared.wrapper.Wrapper.{Wrapper}
 
 -- No bytes are spelled by two good lines.
 pub one-reading : (l m : Line) → GoodLine l → GoodLine m → spellLine l ≡ spellLine m → l ≡ m
@@ -49,6 +50,10 @@ part-stands s p h = part-laws.stands s p h
 -- The part of an accepted line is not empty.
 pub part-some : (s : List ℕ) (n : ℕ) (p : Part) → IsDayOfLine s (Day n) → IsPart s p → 1 ≤ length (p .text)
 part-some s n p h k = part-laws.some-bytes s n p h k
+
+-- A wrapper acts on the day of the phrase behind it.
+pub wrapper-acts : (t : NamedYear) (w : Wrapper) (p : Phrase) → phraseDay t (wrapped w p) ≡ acted (t .style) w (phraseDay t p)
+wrapper-acts t w p = phrase-laws.wrapper-acts t w p
 
 -- a phrase comes to the day n in the named year: its feast or date is a day, and every day on the way lies in the span
 unfoldable pub ComesTo : NamedYear → Phrase → ℕ → Type 0

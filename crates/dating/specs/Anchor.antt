@@ -6,7 +6,6 @@ use Rattle.calendar.specs.Date.{dayInYear}
 use Rattle.church.specs.Feast.{Feast, _is_, feastOf, feastInYear}
 use Rattle.dating.specs.Numeral.{numeral}
 use Rattle.dating.specs.Text.{bytes, point}
-use Rattle.dating.specs.Told.{Grammar}
 use Rattle.calendar.specs.declared.span.DayAnswer.{DayAnswer}
 use Rattle.calendar.specs.declared.year.NamedYear.{NamedYear}
 
@@ -31,9 +30,6 @@ spellAnchor (date d m) = numeral d ++ point ∷ numeral m
 unfoldable pub GoodAnchor : Anchor → Type 0
 GoodAnchor (feast f) = (1 ≤ f) × (f ≤ 48)
 GoodAnchor (date d m) = ((1 ≤ d) × (d ≤ 31)) × ((1 ≤ m) × (m ≤ 12))
-
-abbrev pub anchors : Grammar
-anchors = record { Tree = Anchor; Good = GoodAnchor; spell = spellAnchor }
 
 -- "The feast or date is taken in the named year."
 unfoldable pub anchorDay : NamedYear → Anchor → DayAnswer

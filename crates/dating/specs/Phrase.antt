@@ -2,7 +2,6 @@
 use mathlib.Core.List.{List, _++_}
 use Prim.Native.Nat.{ℕ}
 use Rattle.dating.specs.Anchor.{Anchor, spellAnchor, GoodAnchor, anchorDay}
-use Rattle.dating.specs.Told.{Grammar}
 use Rattle.dating.specs.Wrapper.{wrapperWords, GoodWrapper, acted}
 use Rattle.calendar.specs.declared.span.DayAnswer.{DayAnswer}
 use Rattle.calendar.specs.declared.style.Style.{Style}
@@ -21,9 +20,6 @@ spellPhrase (wrapped w p) = wrapperWords w ++ spellPhrase p
 unfoldable pub GoodPhrase : Phrase → Type 0
 GoodPhrase (plain a) = GoodAnchor a
 GoodPhrase (wrapped w p) = GoodWrapper w × GoodPhrase p
-
-abbrev pub phrases : Grammar
-phrases = record { Tree = Phrase; Good = GoodPhrase; spell = spellPhrase }
 
 -- the feast word or date behind all wrappers
 unfoldable pub anchorOf : Phrase → Anchor

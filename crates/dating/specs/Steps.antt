@@ -6,9 +6,10 @@ use Prim.Native.Nat.{ℕ, _-_, _≤_, _<_}
 use lib.Dec.{eqb, ltb}
 use lib.ListN.{length, drop, getD}
 use Rattle.calendar.specs.Style.{styleLetter}
-use Rattle.dating.specs.Anchor.{feastWord}
+use Rattle.dating.specs.Anchor.{Anchor, feastWord, spellAnchor, GoodAnchor}
 use Rattle.dating.specs.Line.{GoodYear, ending}
 use Rattle.dating.specs.Numeral.{numeral}
+use Rattle.dating.specs.Phrase.{Phrase, spellPhrase, GoodPhrase}
 use Rattle.dating.specs.Told.{Grammar}
 use Rattle.dating.specs.Wrapper.{wrapperWords, GoodWrapper}
 use Rattle.calendar.specs.declared.style.Style.{Style}
@@ -56,6 +57,12 @@ numerals high = numbers high numeral
 
 abbrev pub feastWords : Grammar
 feastWords = numbers 48 feastWord
+
+abbrev pub anchors : Grammar
+anchors = record { Tree = Anchor; Good = GoodAnchor; spell = spellAnchor }
+
+abbrev pub phrases : Grammar
+phrases = record { Tree = Phrase; Good = GoodPhrase; spell = spellPhrase }
 
 abbrev pub letters : Grammar
 letters = record { Tree = Style; Good = λ s. Unit; spell = λ s. styleLetter s ∷ [] }

@@ -11,8 +11,8 @@ ghost use mathlib.Core.Path.{_≡_};
 ghost use Prim.Native.Nat.{_+_, _*_, _%_, _≤_};
 ghost use Rattle.calendar.specs.declared.refusal.Refusal.the-variants.{Form};
 ghost use Rattle.calendar.specs.declared.span.DayAnswer.the-variants.{NoDay};
-ghost use Rattle.dating.specs.Anchor.{feastWord, anchors, anchorDay};
-ghost use Rattle.dating.specs.Steps.{Guess, feastWords};
+ghost use Rattle.dating.specs.Anchor.{feastWord, anchorDay};
+ghost use Rattle.dating.specs.Steps.{Guess, feastWords, anchors};
 ghost use Rattle.dating.specs.Told.{Told};
 
 // The number of the feast whose word falls into a slot; 0 where none does.

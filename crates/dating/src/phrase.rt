@@ -9,7 +9,8 @@ ghost use Prim.Native.Nat.{_≤_};
 ghost use lib.ListN.{length};
 ghost use Rattle.calendar.specs.declared.refusal.Refusal.the-variants.{Form};
 ghost use Rattle.calendar.specs.declared.span.DayAnswer.the-variants.{NoDay};
-ghost use Rattle.dating.specs.Phrase.{phrases, phraseDay};
+ghost use Rattle.dating.specs.Phrase.{phraseDay};
+ghost use Rattle.dating.specs.Steps.{phrases};
 ghost use Rattle.dating.specs.Told.{Told};
 
 // The day of a phrase in the named year; it calls itself once for each wrapper, so its depth is

@@ -14,9 +14,9 @@ use Rattle.dating.proofs.Tests.{tested}
 use Rattle.dating.proofs.Told.{OneReading, number-told, number-untold}
 use Rattle.dating.proofs.numeral.Laws.{one-number, numeral-lacks}
 use Rattle.dating.proofs.text.Laws.{no-false, has-append, has-here, one-cut, cut, known-cut}
-use Rattle.dating.specs.Anchor.{Anchor, feast, date, feastWord, spellAnchor, GoodAnchor, anchors}
+use Rattle.dating.specs.Anchor.{Anchor, feast, date, feastWord, spellAnchor, GoodAnchor}
 use Rattle.dating.specs.Numeral.{numeral}
-use Rattle.dating.specs.Steps.{has, BehindLast, Guess, numerals, feastWords}
+use Rattle.dating.specs.Steps.{has, BehindLast, Guess, numerals, feastWords, anchors}
 use Rattle.dating.specs.Text.{space, point}
 use Rattle.dating.specs.Told.{Told, produced, unproduced}
 

@@ -16,8 +16,8 @@ use Rattle.dating.proofs.phrase.Laws.{one-phrase}
 use Rattle.dating.proofs.text.Laws.{no-false, one-cut, cut, known-cut, last-two}
 use Rattle.dating.specs.Line.{Line, ending, GoodYear, spellLine, GoodLine, lines, lineDay, LineTold, unfit, fit, IsDayOfLine}
 use Rattle.dating.specs.Numeral.{numeral}
-use Rattle.dating.specs.Phrase.{spellPhrase, phrases, phraseDay}
-use Rattle.dating.specs.Steps.{has, BehindLast, numerals, letters, Ended, endings, endAt}
+use Rattle.dating.specs.Phrase.{spellPhrase, phraseDay}
+use Rattle.dating.specs.Steps.{has, BehindLast, numerals, letters, Ended, endings, endAt, phrases}
 use Rattle.dating.specs.Text.{space}
 use Rattle.dating.specs.Told.{Told, produced, unproduced}
 use Rattle.calendar.specs.declared.refusal.Refusal.the-variants.{Length, Form}

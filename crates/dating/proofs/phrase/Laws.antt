@@ -21,9 +21,9 @@ use Rattle.dating.proofs.Told.{OneReading}
 use Rattle.dating.proofs.anchor.Laws.{lacks-space, one-anchor}
 use Rattle.dating.proofs.text.Laws.{no-false, has-here}
 use Rattle.dating.proofs.wrapper.Laws.{one-wrapper}
-use Rattle.dating.specs.Anchor.{Anchor, feast, date, spellAnchor, GoodAnchor, anchors, anchorDay}
-use Rattle.dating.specs.Phrase.{Phrase, plain, wrapped, spellPhrase, GoodPhrase, phrases, anchorOf, wrappersAct, phraseDay}
-use Rattle.dating.specs.Steps.{has, leadings, lead}
+use Rattle.dating.specs.Anchor.{Anchor, feast, date, spellAnchor, GoodAnchor, anchorDay}
+use Rattle.dating.specs.Phrase.{Phrase, plain, wrapped, spellPhrase, GoodPhrase, anchorOf, wrappersAct, phraseDay}
+use Rattle.dating.specs.Steps.{has, leadings, lead, anchors, phrases}
 use Rattle.dating.specs.Text.{bytes, space}
 use Rattle.dating.specs.Told.{Told, produced, unproduced}
 use Rattle.dating.specs.Wrapper.{weekdayWord, wrapperWords, GoodWrapper, moved, acted}
@@ -38,6 +38,11 @@ use Rattle.dating.specs.declared.wrapper.Lead.the-variants.{Wrapped, Pla
 use Rattle.dating.specs.declared.wrapper.Lead.{Lead}
 use Rattle.dating.specs.declared.wrapper.Wrapper.the-variants.{Eve, Morrow, Octave, First}
 use Rattle.dating.specs.declared.wrapper.Wrapper.{Wrapper}
+
+-- a wrapper acts on the day of the phrase behind it
+pub wrapper-acts : (t : NamedYear) (w : Wrapper) (p : Phrase) → phraseDay t (wrapped w p) ≡ acted (t .style) w (phraseDay t p)
+unfolding phraseDay wrappersAct anchorOf
+wrapper-acts t w p = refl
 
 -- ---- a wrapper's words end in a space, so no feast word or date begins with them
 pub spaced : (w : Wrapper) → (x : List ℕ) × (wrapperWords w ≡ x ++ space ∷ [])

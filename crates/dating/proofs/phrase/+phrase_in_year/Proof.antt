@@ -7,8 +7,8 @@ use borrow.Fn.Kinds.{In}
 use borrow.Fn.PlainCycle.{Measures, is, falls, and}
 use Rattle.dating.proofs.phrase.Laws.{shorter, plain-told, wrapped-told, told-in-span}
 use Rattle.dating.proofs.text.Laws.{rest}
-use Rattle.dating.specs.Phrase.{phrases, phraseDay}
-use Rattle.dating.specs.Steps.{leadings, lead}
+use Rattle.dating.specs.Phrase.{phraseDay}
+use Rattle.dating.specs.Steps.{leadings, lead, phrases}
 use Rattle.dating.specs.Told.{Told}
 use Rattle.calendar.specs.declared.refusal.Refusal.the-variants.{Form}
 use Rattle.calendar.specs.declared.span.DayAnswer.the-variants.{NoDay}
