@@ -8,26 +8,26 @@ use native.Mathlib.Omega.{arith}
 use lib.ListN.{length, take, drop}
 use denote.Ref.{RefT, ptr, now}
 use Rattle.calendar.proofs.span.Laws.{span-small}
+use Rattle.words.proofs.text.Laws.{no-false}
 use Rattle.dating.proofs.line.Laws as line-laws
 use Rattle.dating.proofs.part.Laws as part-laws
 use Rattle.dating.proofs.phrase.Laws as phrase-laws
 use Rattle.dating.proofs.phrase.Laws.{later}
-use Rattle.dating.proofs.text.Laws.{no-false}
 use Rattle.calendar.specs.Range.{between}
 use Rattle.calendar.specs.Span.{inSpan, within, dayOrRefusal}
 use Rattle.calendar.specs.Year.{served}
+use Rattle.words.specs.Told.{produced, unproduced}
+use Rattle.dating.specs.Act.{moved, acted}
 use Rattle.dating.specs.Anchor.{anchorDay}
 use Rattle.dating.specs.Line.{Line, spellLine, GoodLine, lineDay, LineTold, unfit, fit, IsDayOfLine, IsNumberOfLine}
 use Rattle.dating.specs.Part.{Part, IsPart, PartOf}
 use Rattle.dating.specs.Phrase.{Phrase, plain, wrapped, anchorOf, wrappersAct, phraseDay}
-use Rattle.dating.specs.Told.{produced, unproduced}
-use Rattle.dating.specs.Wrapper.{moved, acted}
 use Rattle.calendar.specs.declared.refusal.Refusal.the-variants.{Name, Length, Form, Year, Date, Span}
 use Rattle.calendar.specs.declared.refusal.Refusal.{Refusal}
 use Rattle.calendar.specs.declared.span.DayAnswer.the-variants.{Day, NoDay}
 use Rattle.calendar.specs.declared.span.DayAnswer.{DayAnswer}
 use Rattle.calendar.specs.declared.year.NamedYear.{NamedYear}
-use Rattle.dating.specs.declared.wrapper.Wrapper.{Wrapper}
+use Rattle.words.specs.declared.wrapper.Wrapper.{Wrapper}
 
 -- No bytes are spelled by two good lines.
 pub one-reading : (l m : Line) → GoodLine l → GoodLine m → spellLine l ≡ spellLine m → l ≡ m

@@ -10,14 +10,14 @@ use Rattle.calendar.specs.Range.{between}
 use Rattle.calendar.specs.Span.{inSpan, within}
 use Rattle.calendar.specs.Weekday.{weekday}
 use Rattle.calendar.specs.Year.{named, daysOfYears, newYear, served}
+use Rattle.words.specs.Numeral.{decimal}
+use Rattle.words.specs.Text.{bytes}
+use Rattle.words.specs.Told.{produced}
 use Rattle.dating.specs.Anchor.{date, spellAnchor, GoodAnchor, anchorDay}
 use Rattle.dating.specs.Line.{spellLine, lineDay, fit, IsNumberOfLine}
-use Rattle.dating.specs.Numeral.{decimal}
 use Rattle.dating.specs.Phrase.{plain, wrapped, spellPhrase, GoodPhrase, anchorOf, wrappersAct, phraseDay}
-use Rattle.dating.specs.Text.{bytes}
-use Rattle.dating.specs.Told.{produced}
 use Rattle.calendar.specs.declared.style.Style.the-variants.{Julian, Gregorian}
-use Rattle.dating.specs.declared.wrapper.Wrapper.the-variants.{Eve, Morrow}
+use Rattle.words.specs.declared.wrapper.Wrapper.the-variants.{Eve, Morrow}
 
 -- what a line is answered by, a day or a refusal, and a day's weekday
 pub data Row : Type 0 where

@@ -1,11 +1,11 @@
 -- Feast words and dates, on which the wrappers act.
 use mathlib.Core.List.{List, _∷_, _++_}
 use Prim.Native.Nat.{ℕ, _≤_}
-use Prim.Native.String.{String}
 use Rattle.calendar.specs.Date.{dayInYear}
-use Rattle.church.specs.Feast.{Feast, _is_, feastOf, feastInYear}
-use Rattle.dating.specs.Numeral.{numeral}
-use Rattle.dating.specs.Text.{bytes, point}
+use Rattle.church.specs.Feast.{feastInYear}
+use Rattle.words.specs.Numeral.{numeral}
+use Rattle.words.specs.Text.{point}
+use Rattle.words.specs.Word.{feastWord}
 use Rattle.calendar.specs.declared.span.DayAnswer.{DayAnswer}
 use Rattle.calendar.specs.declared.year.NamedYear.{NamedYear}
 
@@ -13,13 +13,6 @@ use Rattle.calendar.specs.declared.year.NamedYear.{NamedYear}
 pub data Anchor : Type 0 where
   feast : ℕ → Anchor
   date : (day month : ℕ) → Anchor
-
-abbrev pub wordOf : Feast → String
-wordOf (word is r) = word
-
--- the word of the feast with the number f from 1 to 48
-abbrev pub feastWord : ℕ → List ℕ
-feastWord f = bytes (wordOf (feastOf f))
 
 -- "A date is a day .., a point, a month .., without leading zeros."
 unfoldable pub spellAnchor : Anchor → List ℕ

@@ -1,8 +1,5 @@
 -- The dating line: its grammar, as trees and how they are spelled, and their meaning. None of it reads; Steps is for the private functions that do. Words in quotes are the scope's.
-pub mod Text
-pub mod Told
-pub mod Numeral
-pub mod Wrapper
+pub mod Act
 pub mod Anchor
 pub mod Phrase
 pub mod Line

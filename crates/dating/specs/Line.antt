@@ -8,10 +8,10 @@ use Rattle.calendar.specs.Range.{between}
 use Rattle.calendar.specs.Refusal.{refusalNumber}
 use Rattle.calendar.specs.Span.{dayOrRefusal}
 use Rattle.calendar.specs.Style.{styleLetter}
-use Rattle.dating.specs.Numeral.{numeral}
+use Rattle.words.specs.Numeral.{numeral}
+use Rattle.words.specs.Text.{space}
+use Rattle.words.specs.Told.{Grammar, Told}
 use Rattle.dating.specs.Phrase.{Phrase, spellPhrase, GoodPhrase, phraseDay}
-use Rattle.dating.specs.Text.{space}
-use Rattle.dating.specs.Told.{Grammar, Told}
 use Rattle.calendar.specs.declared.refusal.Refusal.the-variants.{Length, Form}
 use Rattle.calendar.specs.declared.refusal.Refusal.{Refusal}
 use Rattle.calendar.specs.declared.span.DayAnswer.the-variants.{NoDay}

@@ -4,10 +4,10 @@ use mathlib.Core.Path.{_≡_}
 use Prim.Native.Nat.{ℕ, _+_}
 use lib.ListN.{length}
 use denote.Ref.{RefT, ptr, now}
+use Rattle.words.specs.Wrapper.{wrapperWords}
 use Rattle.dating.specs.Anchor.{spellAnchor}
 use Rattle.dating.specs.Line.{Line, lineDay, LineTold}
 use Rattle.dating.specs.Phrase.{Phrase, plain, wrapped, anchorOf}
-use Rattle.dating.specs.Wrapper.{wrapperWords}
 use Rattle.calendar.specs.declared.span.DayAnswer.the-variants.{Day, NoDay}
 use Rattle.calendar.specs.declared.span.DayAnswer.{DayAnswer}
 use Rattle.dating.specs.declared.part.Place.{Place}

@@ -1,12 +1,13 @@
 -- Phrases: wrappers before a feast word or date.
 use mathlib.Core.List.{List, _++_}
 use Prim.Native.Nat.{ℕ}
+use Rattle.words.specs.Wrapper.{wrapperWords, GoodWrapper}
+use Rattle.dating.specs.Act.{acted}
 use Rattle.dating.specs.Anchor.{Anchor, spellAnchor, GoodAnchor, anchorDay}
-use Rattle.dating.specs.Wrapper.{wrapperWords, GoodWrapper, acted}
 use Rattle.calendar.specs.declared.span.DayAnswer.{DayAnswer}
 use Rattle.calendar.specs.declared.style.Style.{Style}
 use Rattle.calendar.specs.declared.year.NamedYear.{NamedYear}
-use Rattle.dating.specs.declared.wrapper.Wrapper.{Wrapper}
+use Rattle.words.specs.declared.wrapper.Wrapper.{Wrapper}
 
 -- "A phrase is a feast word, or a date, or one of these before a phrase"
 pub data Phrase : Type 0 where

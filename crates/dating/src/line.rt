@@ -1,18 +1,18 @@
 // The dating line, split from its end.
-use crate::numeral::number_of;
 use crate::phrase::phrase_in_year;
-use crate::text::behind_last;
 use calendar::refusal::Refusal;
 use calendar::span::DayAnswer;
 use calendar::style::Style;
 use calendar::style::StyleAnswer;
 use calendar::year::NamedYear;
+use words::numeral::number_of;
+use words::text::behind_last;
 ghost use mathlib.Core.List.{[], _∷_};
 ghost use Rattle.calendar.specs.declared.refusal.Refusal.the-variants.{Form};
 ghost use Rattle.calendar.specs.declared.style.StyleAnswer.the-variants.{Known, NoStyle};
+ghost use Rattle.words.specs.Told.{Told};
 ghost use Rattle.dating.specs.Line.{IsDayOfLine};
 ghost use Rattle.dating.specs.Steps.{letters, endings, endAt};
-ghost use Rattle.dating.specs.Told.{Told};
 ghost use Rattle.dating.specs.declared.line.Ending.the-variants.{NoEnding};
 
 // The length of a line's phrase, and the year with its style that stand behind it, or none.

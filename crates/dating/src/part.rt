@@ -2,8 +2,8 @@
 use crate::line::Ending;
 use crate::line::day_of_line;
 use crate::line::ending_of;
-use crate::text::behind_last;
 use calendar::span::DayAnswer;
+use words::text::behind_last;
 ghost use mathlib.Core.Path.{_≡_};
 ghost use Rattle.dating.specs.Part.{emptyPart, placeOf, IsPlace, PartOf};
 

@@ -1,17 +1,17 @@
 // The phrase: each wrapper acts on what remains behind it, the innermost first.
+use crate::act::act;
 use crate::anchor::anchor_in_year;
-use crate::wrapper::Lead;
-use crate::wrapper::act;
-use crate::wrapper::lead_of;
 use calendar::span::DayAnswer;
 use calendar::year::NamedYear;
+use words::wrapper::Lead;
+use words::wrapper::lead_of;
 ghost use Prim.Native.Nat.{_≤_};
 ghost use lib.ListN.{length};
 ghost use Rattle.calendar.specs.declared.refusal.Refusal.the-variants.{Form};
 ghost use Rattle.calendar.specs.declared.span.DayAnswer.the-variants.{NoDay};
+ghost use Rattle.words.specs.Told.{Told};
 ghost use Rattle.dating.specs.Phrase.{phraseDay};
 ghost use Rattle.dating.specs.Steps.{phrases};
-ghost use Rattle.dating.specs.Told.{Told};
 
 // The day of a phrase in the named year; it calls itself once for each wrapper, so its depth is
 // bounded by the phrase's length.

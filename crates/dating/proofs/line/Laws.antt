@@ -8,18 +8,18 @@ use lib.ListN.{length, take, drop, getD, length-append}
 use lib.Seq.{length-take-le, take-append-seam, getD-append-seam, getD-append-add}
 use borrow.Author.Tests.{le-leb, lt-leb}
 use Rattle.calendar.proofs.range.Laws.{in-range}
+use Rattle.words.proofs.Told.{OneReading, one-told, told-map, number-told, number-untold}
+use Rattle.words.proofs.numeral.Laws.{one-number, numeral-lacks}
+use Rattle.words.proofs.text.Laws.{no-false, one-cut, cut, known-cut, last-two}
+use Rattle.dating.proofs.phrase.Laws.{one-phrase}
 use Rattle.calendar.specs.Range.{between}
 use Rattle.calendar.specs.Style.{styleLetter}
-use Rattle.dating.proofs.Told.{OneReading, one-told, told-map, number-told, number-untold}
-use Rattle.dating.proofs.numeral.Laws.{one-number, numeral-lacks}
-use Rattle.dating.proofs.phrase.Laws.{one-phrase}
-use Rattle.dating.proofs.text.Laws.{no-false, one-cut, cut, known-cut, last-two}
+use Rattle.words.specs.Numeral.{numeral, numerals}
+use Rattle.words.specs.Text.{space, has, BehindLast}
+use Rattle.words.specs.Told.{Told, produced, unproduced}
 use Rattle.dating.specs.Line.{Line, ending, GoodYear, spellLine, GoodLine, lines, lineDay, LineTold, unfit, fit, IsDayOfLine}
-use Rattle.dating.specs.Numeral.{numeral}
 use Rattle.dating.specs.Phrase.{spellPhrase, phraseDay}
-use Rattle.dating.specs.Steps.{has, BehindLast, numerals, letters, Ended, endings, endAt, phrases}
-use Rattle.dating.specs.Text.{space}
-use Rattle.dating.specs.Told.{Told, produced, unproduced}
+use Rattle.dating.specs.Steps.{phrases, letters, Ended, endings, endAt}
 use Rattle.calendar.specs.declared.refusal.Refusal.the-variants.{Length, Form}
 use Rattle.calendar.specs.declared.refusal.Refusal.{Refusal}
 use Rattle.calendar.specs.declared.span.DayAnswer.the-variants.{NoDay}

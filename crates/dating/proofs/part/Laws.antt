@@ -9,28 +9,27 @@ use lib.ListN.{length, take, drop, length-append}
 use lib.Seq.{append-snoc, drop-at, take-append-seam, length-take-le}
 use denote.Ref.{RefT, ptr, now}
 use Rattle.calendar.proofs.refusal.Laws.{no-day}
-use Rattle.calendar.specs.Range.{between}
+use Rattle.words.proofs.text.Laws.{no-false, has-here, cut, known-cut}
+use Rattle.words.proofs.wrapper.Laws.{spaced}
 use Rattle.dating.proofs.anchor.Laws.{lacks-space, anchor-some}
 use Rattle.dating.proofs.line.Laws.{TellsEnding, no-ending, ending-of, its-phrase, one-answer}
-use Rattle.dating.proofs.phrase.Laws.{spaced}
-use Rattle.dating.proofs.text.Laws.{no-false, has-here, cut, known-cut}
+use Rattle.calendar.specs.Range.{between}
+use Rattle.words.specs.Text.{space, has, BehindLast}
+use Rattle.words.specs.Told.{Told, produced, unproduced}
+use Rattle.words.specs.Wrapper.{wrapperWords}
 use Rattle.dating.specs.Anchor.{spellAnchor, GoodAnchor}
 use Rattle.dating.specs.Line.{Line, ending, spellLine, lines, lineDay, unfit, fit, IsDayOfLine}
 use Rattle.dating.specs.Part.{Part, bytesBefore, anchorPart, emptyPart, ifAccepted, linePart, IsPart, placeOf, IsPlace, PartOf}
 use Rattle.dating.specs.Phrase.{Phrase, plain, wrapped, spellPhrase, GoodPhrase, anchorOf}
-use Rattle.dating.specs.Steps.{has, BehindLast}
-use Rattle.dating.specs.Text.{space}
-use Rattle.dating.specs.Told.{Told, produced, unproduced}
-use Rattle.dating.specs.Wrapper.{wrapperWords}
 use Rattle.calendar.specs.declared.refusal.Refusal.the-variants.{Length, Form}
 use Rattle.calendar.specs.declared.refusal.Refusal.{Refusal}
 use Rattle.calendar.specs.declared.span.DayAnswer.the-variants.{Day, NoDay}
 use Rattle.calendar.specs.declared.span.DayAnswer.{DayAnswer}
 use Rattle.calendar.specs.declared.year.NamedYear.{NamedYear}
+use Rattle.words.specs.declared.wrapper.Wrapper.{Wrapper}
 use Rattle.dating.specs.declared.line.Ending.the-variants.{At, NoEnding}
 use Rattle.dating.specs.declared.line.Ending.{Ending}
 use Rattle.dating.specs.declared.part.Place.{Place}
-use Rattle.dating.specs.declared.wrapper.Wrapper.{Wrapper}
 
 -- the words of all wrappers of a phrase
 leads : Phrase → List ℕ

@@ -1,6 +1,6 @@
 -- Phrases: each has one reading, and a wrapper acts on what the rest tells.
 use mathlib.Core.Bool.{Bool, true, false}
-use mathlib.Core.List.{List, [], _∷_, _++_, append-assoc}
+use mathlib.Core.List.{List, [], _∷_, _++_}
 use mathlib.Core.Path.{_≡_, refl, sym, _∙_, ap, ap₂}
 use Prim.Native.Nat.{ℕ, _≤_}
 use native.Mathlib.Omega.{arith}
@@ -11,47 +11,39 @@ use Rattle.calendar.proofs.range.Laws.{in-range}
 use Rattle.calendar.proofs.refusal.Laws.{no-day, passed, passed-day}
 use Rattle.calendar.proofs.span.Laws.{within-span}
 use Rattle.church.proofs.feast.Laws.{feast-in-span, feast-served}
+use Rattle.words.proofs.Told.{OneReading}
+use Rattle.words.proofs.text.Laws.{no-false, has-here}
+use Rattle.words.proofs.wrapper.Laws.{spaced, one-wrapper}
+use Rattle.dating.proofs.anchor.Laws.{lacks-space, one-anchor}
 use Rattle.calendar.specs.Date.{isDate, dayInYear}
 use Rattle.calendar.specs.Refusal.{unless}
 use Rattle.calendar.specs.Span.{inSpan, within}
 use Rattle.calendar.specs.Year.{served}
 use Rattle.church.specs.Easter.{hasEaster}
 use Rattle.church.specs.Feast.{Rule, before, after, on, advent, rule, ruleDay, feastInYear}
-use Rattle.dating.proofs.Told.{OneReading}
-use Rattle.dating.proofs.anchor.Laws.{lacks-space, one-anchor}
-use Rattle.dating.proofs.text.Laws.{no-false, has-here}
-use Rattle.dating.proofs.wrapper.Laws.{one-wrapper}
+use Rattle.words.specs.Text.{space, has}
+use Rattle.words.specs.Told.{Told, produced, unproduced}
+use Rattle.words.specs.Wrapper.{wrapperWords, GoodWrapper, leadings, lead}
+use Rattle.dating.specs.Act.{moved, acted}
 use Rattle.dating.specs.Anchor.{Anchor, feast, date, spellAnchor, GoodAnchor, anchorDay}
 use Rattle.dating.specs.Phrase.{Phrase, plain, wrapped, spellPhrase, GoodPhrase, anchorOf, wrappersAct, phraseDay}
-use Rattle.dating.specs.Steps.{has, leadings, lead, anchors, phrases}
-use Rattle.dating.specs.Text.{bytes, space}
-use Rattle.dating.specs.Told.{Told, produced, unproduced}
-use Rattle.dating.specs.Wrapper.{weekdayWord, wrapperWords, GoodWrapper, moved, acted}
+use Rattle.dating.specs.Steps.{anchors, phrases}
 use Rattle.calendar.specs.declared.refusal.Refusal.the-variants.{Name, Length, Form, Year, Date, Span}
 use Rattle.calendar.specs.declared.refusal.Refusal.{Refusal}
 use Rattle.calendar.specs.declared.span.DayAnswer.the-variants.{Day, NoDay}
 use Rattle.calendar.specs.declared.span.DayAnswer.{DayAnswer}
 use Rattle.calendar.specs.declared.style.Style.{Style}
-use Rattle.calendar.specs.declared.weekday.Side.the-variants.{After, Before}
 use Rattle.calendar.specs.declared.year.NamedYear.{NamedYear}
-use Rattle.dating.specs.declared.wrapper.Lead.the-variants.{Wrapped, Plain}
-use Rattle.dating.specs.declared.wrapper.Lead.{Lead}
-use Rattle.dating.specs.declared.wrapper.Wrapper.the-variants.{Eve, Morrow, Octave, First}
-use Rattle.dating.specs.declared.wrapper.Wrapper.{Wrapper}
+use Rattle.words.specs.declared.wrapper.Lead.the-variants.{Wrapped, Plain}
+use Rattle.words.specs.declared.wrapper.Lead.{Lead}
+use Rattle.words.specs.declared.wrapper.Wrapper.{Wrapper}
 
 -- a wrapper acts on the day of the phrase behind it
 pub wrapper-acts : (t : NamedYear) (w : Wrapper) (p : Phrase) → phraseDay t (wrapped w p) ≡ acted (t .style) w (phraseDay t p)
 unfolding phraseDay wrappersAct anchorOf
 wrapper-acts t w p = refl
 
--- ---- a wrapper's words end in a space, so no feast word or date begins with them
-pub spaced : (w : Wrapper) → (x : List ℕ) × (wrapperWords w ≡ x ++ space ∷ [])
-spaced Eve = (bytes "eve of", refl)
-spaced Morrow = (bytes "morrow of", refl)
-spaced Octave = (bytes "octave of", refl)
-spaced (First After n) = (weekdayWord n ++ bytes " after", sym (append-assoc (weekdayWord n) (bytes " after") (space ∷ [])))
-spaced (First Before n) = (weekdayWord n ++ bytes " before", sym (append-assoc (weekdayWord n) (bytes " before") (space ∷ [])))
-
+-- ---- no feast word or date begins with a wrapper's words
 no-anchor : {A : Type 0} (a : Anchor) (w : Wrapper) (t : List ℕ) → GoodAnchor a → spellAnchor a ≡ wrapperWords w ++ t → A
 no-anchor a w t g e =
     let x = spaced w in
@@ -66,9 +58,7 @@ one-phrase (plain a) (wrapped w q) g h e = no-anchor a w (spellPhrase q) g e
 one-phrase (wrapped w p) (plain b) g h e = no-anchor b w (spellPhrase p) h (sym e)
 one-phrase (wrapped w p) (wrapped v q) g h e =
     let same = one-wrapper w v (spellPhrase p) (spellPhrase q) (g .0) (h .0) e in
-    let rest = ap (drop (length (wrapperWords v))) (rw same at e) in
-    let f = sym (drop-append-seam (wrapperWords v) (spellPhrase p)) ∙ rest ∙ drop-append-seam (wrapperWords v) (spellPhrase q) in
-    ap₂ wrapped same (one-phrase p q (g .1) (h .1) f)
+    ap₂ wrapped (same .0) (one-phrase p q (g .1) (h .1) (same .1))
 
 -- ---- every day that a phrase tells lies in the span
 anchor-in-span : (t : NamedYear) (a : Anchor) (n : ℕ) → anchorDay t a ≡ Day n → inSpan (t .style) n ≡ true
@@ -194,7 +184,4 @@ module _ (s : List ℕ) (w : Wrapper) (n : ℕ) (begins : Told leadings lead Pla
       neither : (p : Phrase) → GoodPhrase p → spellPhrase p ≡ s → ⊥
       neither (plain a) g e = no-anchor a w (drop n s) g (e ∙ sym (leads .2))
       neither (wrapped v p) g e =
-          let same = one-wrapper v w (spellPhrase p) (drop n s) (g .0) (leads .1) (e ∙ sym (leads .2)) in
-          let rest : spellPhrase p ≡ drop n s =
-          sym (drop-append-seam (wrapperWords w) (spellPhrase p)) ∙ rw (← leads .0) (ap (drop n) (rw same at e)) in
-          none p (g .1) rest
+          none p (g .1) (one-wrapper v w (spellPhrase p) (drop n s) (g .0) (leads .1) (e ∙ sym (leads .2)) .1)

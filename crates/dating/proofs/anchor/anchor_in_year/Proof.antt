@@ -2,8 +2,8 @@ use mathlib.Core.Path.{_≡_, sym}
 use native.Mathlib.Omega.{arith}
 use lib.Seq.{length-take-le}
 use borrow.Author.Needs.{needs}
+use Rattle.words.proofs.text.Laws.{rest}
 use Rattle.dating.proofs.anchor.Laws.{feast-told, no-point, no-day, no-month, date-told}
-use Rattle.dating.proofs.text.Laws.{rest}
 use Rattle.dating.specs.Anchor.{anchorDay}
 use Rattle.dating.proofs.anchor.anchor_in_year.Statement.{statement}
 use Rattle.dating.proofs.anchor.anchor_in_year.Tie as tie

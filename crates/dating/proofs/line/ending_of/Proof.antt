@@ -2,8 +2,8 @@ use mathlib.Core.Path.{sym}
 use native.Mathlib.Omega.{arith}
 use lib.Seq.{length-take-le}
 use borrow.Author.Needs.{needs}
+use Rattle.words.proofs.text.Laws.{rest}
 use Rattle.dating.proofs.line.Laws.{too-short, no-last-space, no-style, no-year-space, no-year, ending-told}
-use Rattle.dating.proofs.text.Laws.{rest}
 use Rattle.dating.proofs.line.ending_of.Statement.{statement}
 use Rattle.dating.proofs.line.ending_of.Tie as tie
 

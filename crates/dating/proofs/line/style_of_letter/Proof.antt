@@ -1,6 +1,6 @@
 use mathlib.Core.Path.{refl}
 use Rattle.dating.proofs.line.Laws.{no-letter}
-use Rattle.dating.specs.Told.{produced}
+use Rattle.words.specs.Told.{produced}
 use Rattle.calendar.specs.declared.style.Style.the-variants.{Julian, Gregorian}
 use Rattle.dating.proofs.line.style_of_letter.Statement.{statement}
 use Rattle.dating.proofs.line.style_of_letter.Tie as tie

@@ -5,20 +5,21 @@ use lib.ListN.{length, drop, length-drop}
 use borrow.Author.Needs.{needs}
 use borrow.Fn.Kinds.{In}
 use borrow.Fn.PlainCycle.{Measures, is, falls, and}
+use Rattle.words.proofs.text.Laws.{rest}
 use Rattle.dating.proofs.phrase.Laws.{shorter, plain-told, wrapped-told, told-in-span}
-use Rattle.dating.proofs.text.Laws.{rest}
+use Rattle.words.specs.Told.{Told}
+use Rattle.words.specs.Wrapper.{leadings, lead}
 use Rattle.dating.specs.Phrase.{phraseDay}
-use Rattle.dating.specs.Steps.{leadings, lead, phrases}
-use Rattle.dating.specs.Told.{Told}
+use Rattle.dating.specs.Steps.{phrases}
 use Rattle.calendar.specs.declared.refusal.Refusal.the-variants.{Form}
 use Rattle.calendar.specs.declared.span.DayAnswer.the-variants.{NoDay}
-use Rattle.dating.specs.declared.wrapper.Lead.the-variants.{Wrapped, Plain}
+use Rattle.words.specs.declared.wrapper.Lead.the-variants.{Wrapped, Plain}
 use Rattle.dating.proofs.anchor.anchor_in_year.Reads as anchor-in-year-reads
 use Rattle.dating.proofs.phrase.+phrase_in_year.Lts-phrase_in_year as lts
 use Rattle.dating.proofs.phrase.phrase_in_year.Kinds as kinds
 use Rattle.dating.proofs.phrase.phrase_in_year.Reads as reads
-use Rattle.dating.proofs.wrapper.act.Reads as act-reads
-use Rattle.dating.proofs.wrapper.lead_of.Reads as lead-of-reads
+use Rattle.dating.proofs.act.act.Reads as act-reads
+use Rattle.words.proofs.wrapper.lead_of.Reads as lead-of-reads
 use Rattle.dating.proofs.phrase.+phrase_in_year.Tie.{close}
 use Rattle.dating.proofs.phrase.+phrase_in_year.{statement}
 

@@ -1,0 +1,158 @@
+-- Numerals: what they are made of, by tests that antt computes at each number, and how one grows by a digit.
+use mathlib.Core.Bool.{Bool, true, false, _&&_, _||_, cond}
+use mathlib.Core.List.{List, [], _∷_, _++_}
+use mathlib.Core.Path.{_≡_, refl, sym, _∙_, ap, subst}
+use Prim.Native.Nat.{ℕ, zero, suc, _+_, _-_, _*_, _/_, _%_, _<_, _≤_}
+use native.Mathlib.Numerals.{add-one}
+use native.Mathlib.Omega.{arith}
+use lib.Dec.{eqb, ltb}
+use lib.ListN.{length, take, getD}
+use lib.Seq.{length-take-le, take-suc, take-all}
+use borrow.Author.Tests.{eqb-true, ne-eqb, ltb-true, lt-ltb, le-ltb}
+use Rattle.calendar.proofs.range.Laws.{range}
+use Rattle.words.proofs.Tests.{tested}
+use Rattle.words.proofs.Told.{OneReading}
+use Rattle.words.proofs.text.Laws.{both}
+use Rattle.calendar.specs.Range.{between}
+use Rattle.words.specs.Numeral.{digit, decimal, numeral, numerals}
+use Rattle.words.specs.Text.{has}
+use Rattle.words.specs.Told.{Told, produced, unproduced}
+
+isDigit : ℕ → Bool
+isDigit x = between 48 x 57
+
+allDigits : List ℕ → Bool
+allDigits [] = true
+allDigits (x ∷ s) = isDigit x && allDigits s
+
+-- the number that a numeral stands for
+value : ℕ → List ℕ → ℕ
+value v [] = v
+value v (x ∷ s) = value (10 * v + (x - 48)) s
+
+-- what a numeral is made of: 1 to 4 digits, the first no 0, three of them only up to 999, and it stands for its number
+made : ℕ → List Bool
+made n =
+    let s = numeral n in
+    allDigits s ∷ between 1 (length s) 4 ∷ ltb 48 (getD s 0 0) ∷ (ltb n 1000 || ltb 3 (length s)) ∷ eqb (value 0 s) n ∷ []
+
+module _ (n : ℕ) (low : 1 ≤ n) (high : n ≤ 9999) where
+  all-made : (i : ℕ) → getD (made n) i true ≡ true
+  unfolding made allDigits isDigit value decimal between
+  all-made i = tested made 9999 tt n low high i
+
+  all-digits : allDigits (numeral n) ≡ true
+  unfolding made
+  all-digits = all-made 0
+
+  few-digits : between 1 (length (numeral n)) 4 ≡ true
+  unfolding made
+  few-digits = all-made 1
+
+  no-zero : ltb 48 (getD (numeral n) 0 0) ≡ true
+  unfolding made
+  no-zero = all-made 2
+
+  stands-for : value 0 (numeral n) ≡ n
+  unfolding made
+  stands-for = eqb-true (value 0 (numeral n)) n (all-made 4)
+
+  -- a numeral of at most three digits is of a number below 1000
+  three-digits : length (numeral n) ≤ 3 → n ≤ 999
+  unfolding made
+  three-digits h = small (ltb n 1000) refl (all-made 3)
+    where
+      small : (b : Bool) → ltb n 1000 ≡ b → (b || ltb 3 (length (numeral n))) ≡ true → n ≤ 999
+      small true e f = let l = ltb-true n 1000 e in omega arith
+      small false e f = let l = ltb-true 3 (length (numeral n)) f in absurd (omega arith)
+
+-- what any numeral looks like
+pub record Shape (s : List ℕ) : Type 0 where
+  pub some : 1 ≤ length s
+  pub few : length s ≤ 4
+  pub first : 49 ≤ getD s 0 0
+  pub digits : (i : ℕ) → i < length s → (48 ≤ getD s i 0) × (getD s i 0 ≤ 57)
+
+digit-at : (s : List ℕ) → allDigits s ≡ true → (i : ℕ) → i < length s → (48 ≤ getD s i 0) × (getD s i 0 ≤ 57)
+unfolding allDigits isDigit
+digit-at [] e i h = absurd (omega arith)
+digit-at (x ∷ s) e zero h = range 48 x 57 (both (between 48 x 57) (allDigits s) e .0)
+digit-at (x ∷ s) e (suc i) h = digit-at s (both (between 48 x 57) (allDigits s) e .1) i (omega arith)
+
+shape : (n : ℕ) → 1 ≤ n → n ≤ 9999 → Shape (numeral n)
+shape n low high =
+    let l = range 1 (length (numeral n)) 4 (few-digits n low high) in
+    let f = ltb-true 48 (getD (numeral n) 0 0) (no-zero n low high) in
+    record { some = l .0; few = l .1; first = omega arith; digits = digit-at (numeral n) (all-digits n low high) }
+
+pub one-number : (n m : ℕ) → 1 ≤ n → n ≤ 9999 → 1 ≤ m → m ≤ 9999 → numeral n ≡ numeral m → n ≡ m
+one-number n m ln hn lm hm e = sym (stands-for n ln hn) ∙ ap (value 0) e ∙ stands-for m lm hm
+
+pub one-numeral : (high : ℕ) → OneReading (numerals high)
+one-numeral high n m g h e = one-number n m (g .0) (omega (arith, g)) (h .0) (omega (arith, h)) e
+
+-- ---- a numeral grows by a digit
+fuel : (n : ℕ) → n ≤ 999 → decimal 2 n ≡ decimal 3 n
+unfolding decimal
+fuel n h = go (ltb n 10) (ltb (n / 10) 10) refl
+  where
+    go : (a b : Bool) → ltb (n / 10) 10 ≡ b
+        → cond a (digit n ∷ []) (cond b (digit (n / 10) ∷ []) (decimal 0 (n / 10 / 10) ++ digit (n / 10 % 10) ∷ []) ++ digit (n % 10) ∷ [])
+        ≡ cond a (digit n ∷ []) (cond b (digit (n / 10) ∷ []) (decimal 1 (n / 10 / 10) ++ digit (n / 10 % 10) ∷ []) ++ digit (n % 10) ∷ [])
+    go true b e = refl
+    go false true e = refl
+    go false false e = rw (lt-ltb (n / 10 / 10) 10 (omega arith))
+
+one-digit : (d : ℕ) → d ≤ 9 → numeral d ≡ digit d ∷ []
+unfolding decimal
+one-digit d h = rw (lt-ltb d 10 (omega arith))
+
+grown : (n d : ℕ) → 1 ≤ n → n ≤ 999 → d ≤ 9 → numeral (10 * n + d) ≡ numeral n ++ digit d ∷ []
+unfolding decimal
+grown n d low high h =
+    let q : (10 * n + d) / 10 ≡ n = omega arith in
+    let r : (10 * n + d) % 10 ≡ d = omega arith in
+    rw (le-ltb (10 * n + d) 10 (omega arith), q, r, fuel n high)
+
+-- ---- reading, byte by byte
+pub no-numeral : (high : ℕ) (s : List ℕ) → (Shape s → ⊥) → Told (numerals high) (λ n. n) 0 s 0
+no-numeral high s bad = unproduced (λ n g e. bad (subst Shape e (shape n (g .0) (omega (arith, g))))) refl
+
+pub begun : (s : List ℕ) → 1 ≤ length s → 49 ≤ getD s 0 0 → getD s 0 0 ≤ 57 → numeral (getD s 0 0 - 48) ≡ take 1 s
+begun [] some low high = absurd (omega arith)
+begun (x ∷ s) some low high =
+    let e : digit (x - 48) ≡ x = omega arith in
+    one-digit (x - 48) (omega arith) ∙ rw e
+
+module _ (s : List ℕ) (n i : ℕ) (low : 1 ≤ n) (high : n ≤ 9999) (e : numeral n ≡ take i s) where
+  module _ (h : i < length s) (few : length s ≤ 4) where
+    pub room : n ≤ 999
+    room = three-digits n low high (rw (e, length-take-le i s (omega arith)) (omega arith))
+
+    pub longer : 48 ≤ getD s i 0 → getD s i 0 ≤ 57 → numeral (10 * n + (getD s i 0 - 48)) ≡ take (i + 1) s
+    longer l g =
+        let b : digit (getD s i 0 - 48) ≡ getD s i 0 = omega arith in
+        grown n (getD s i 0 - 48) low room (omega arith) ∙ rw (b, e, add-one, take-suc s i 0 h)
+
+  module _ (all : length s ≤ i) where
+    whole : numeral n ≡ s
+    whole = e ∙ take-all i s all
+
+    pub read : (top : ℕ) → n ≤ top → Told (numerals top) (λ k. k) 0 s n
+    read top h = produced n (low, omega arith) whole refl
+
+    pub above : (top : ℕ) → top < n → Told (numerals top) (λ k. k) 0 s 0
+    above top h =
+        unproduced (λ k g f. let same = one-number k n (g .0) (omega (arith, g)) low high (f ∙ sym whole) in omega (arith, g)) refl
+
+-- ---- what stands in no numeral
+no-digit : (c : ℕ) (s : List ℕ) → c < 48 → allDigits s ≡ true → has c s ≡ false
+unfolding has allDigits isDigit
+no-digit c [] h e = refl
+no-digit c (x ∷ s) h e =
+    let b = both (between 48 x 57) (allDigits s) e in
+    let d = range 48 x 57 (b .0) in
+    rw (ne-eqb x c (omega arith)) (no-digit c s h (b .1))
+
+pub numeral-lacks : (c n : ℕ) → c < 48 → 1 ≤ n → n ≤ 9999 → has c (numeral n) ≡ false
+numeral-lacks c n h low high = no-digit c (numeral n) h (all-digits n low high)

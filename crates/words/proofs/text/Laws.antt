@@ -1,0 +1,193 @@
+-- Words at the start of bytes, and bytes cut behind the last of a kind.
+use mathlib.Core.Bool.{Bool, true, false, _&&_, _||_, cond}
+use mathlib.Core.List.{List, [], _∷_, _++_, append-nil}
+use mathlib.Core.Path.{_≡_, refl, sym, _∙_, ap, ap₂}
+use Prim.Native.Nat.{ℕ, suc, _+_, _-_, _<_, _≤_}
+use native.Mathlib.Decide.{decLt}
+use native.Mathlib.Numerals.{add-one}
+use native.Mathlib.Omega.{arith}
+use lib.Dec.{eqb}
+use lib.ListN.{length, take, drop, getD, length-drop, take-append-drop, drop-of-length-le, List·getD-append}
+use lib.Seq.{drop-cons, drop-length, split-at, take-all}
+use borrow.Author.Tests.{eq-eqb, ne-eqb, eqb-true}
+use Rattle.words.specs.Steps.{starts, taken}
+use Rattle.words.specs.Text.{has, BehindLast}
+
+pub no-false : {A : Type 0} → true ≡ false → A
+no-false e = let z : _≡_ {A = ℕ} 0 1 = cc in absurd (omega arith)
+
+pub both : (a b : Bool) → (a && b) ≡ true → (a ≡ true) × (b ≡ true)
+both true b e = (refl, e)
+both false b e = no-false (sym e)
+
+not-both : (a : Bool) {b : Bool} → b ≡ false → (a && b) ≡ false
+not-both true e = e
+not-both false e = refl
+
+-- ---- what stands at the start
+pub too-short : (w s : List ℕ) → length s < length w → starts w s ≡ false
+unfolding starts
+too-short [] [] h = absurd (omega arith)
+too-short [] (y ∷ s) h = absurd (omega arith)
+too-short (x ∷ w) [] h = refl
+too-short (x ∷ w) (y ∷ s) h = not-both (eqb x y) (too-short w s (omega arith))
+
+module _ (w s : List ℕ) (i : ℕ) (hw : i < length w) (hs : i < length s) where
+  pub differ : (getD s i 0 ≡ getD w i 0 → ⊥) → starts (drop i w) (drop i s) ≡ false
+  unfolding starts
+  differ n = rw (drop-cons w i 0, drop-cons s i 0, ne-eqb (getD w i 0) (getD s i 0) (λ e. n (sym e)))
+
+  pub agree : getD s i 0 ≡ getD w i 0 → starts (drop i w) (drop i s) ≡ starts (drop (i + 1) w) (drop (i + 1) s)
+  unfolding starts
+  agree e = rw (add-one, drop-cons w i 0, drop-cons s i 0, eq-eqb (getD w i 0) (getD s i 0) (sym e))
+
+pub compared : (w s : List ℕ) (i : ℕ) → length w ≤ i → starts (drop i w) s ≡ true
+unfolding starts
+compared w s i h = rw (drop-of-length-le w h)
+
+pub starts-append : (w t : List ℕ) → starts w (w ++ t) ≡ true
+unfolding starts
+starts-append [] t = refl
+starts-append (x ∷ w) t = rw (eq-eqb x x refl) (starts-append w t)
+
+pub begun : (w s : List ℕ) → starts w s ≡ true → w ++ drop (length w) s ≡ s
+unfolding starts
+begun [] s e = refl
+begun (x ∷ w) [] e = no-false (sym e)
+begun (x ∷ w) (y ∷ s) e =
+    let b = both (eqb x y) (starts w s) e in
+    ap₂ (λ (a : ℕ) (l : List ℕ). a ∷ l) (eqb-true x y (b .0)) (begun w s (b .1))
+
+pub same-byte : (w s : List ℕ) (i : ℕ) → starts w s ≡ true → i < length w → getD s i 0 ≡ getD w i 0
+same-byte w s i e h = rw (begun w s e) at (List·getD-append w (drop (length w) s) 0 i h)
+
+pub same-bytes : (w s : List ℕ) → starts w s ≡ true → length w ≡ length s → w ≡ s
+same-bytes w s e l =
+    let all : length s ≤ length w = omega arith in
+    let none = drop-of-length-le s all in
+    sym (append-nil w) ∙ rw none at (begun w s e)
+
+pub starts-both : (a b s : List ℕ) → starts (a ++ b) s ≡ (starts a s && starts b (drop (length a) s))
+unfolding starts
+starts-both [] b s = refl
+starts-both (x ∷ a) b [] = refl
+starts-both (x ∷ a) b (y ∷ s) = go (eqb x y) (starts-both a b s)
+  where
+    go : (p : Bool) → starts (a ++ b) s ≡ (starts a s && starts b (drop (length a) s)) → (p && starts (a ++ b) s) ≡ ((p && starts a s) && starts b (drop (length a) s))
+    go true e = e
+    go false e = refl
+
+-- what is taken tells whether the word stands there
+module _ (w s : List ℕ) where
+  pub stands-not : 1 ≤ length w → taken w s ≡ 0 → starts w s ≡ false
+  stands-not some e = go (starts w s) refl e
+    where
+      go : (b : Bool) → starts w s ≡ b → cond b (length w) 0 ≡ 0 → starts w s ≡ false
+      go true h z = absurd (omega arith)
+      go false h z = h
+
+  pub stands : (taken w s ≡ 0 → ⊥) → (starts w s ≡ true) × (taken w s ≡ length w)
+  stands some = go (starts w s) refl some
+    where
+      go : (b : Bool) → starts w s ≡ b → (cond b (length w) 0 ≡ 0 → ⊥) → (starts w s ≡ true) × (taken w s ≡ length w)
+      go true h z = (h, rw h)
+      go false h z = absurd (z refl)
+
+-- ---- what a byte does not stand in
+pub has-append : (c : ℕ) (a b : List ℕ) → has c a ≡ false → has c b ≡ false → has c (a ++ b) ≡ false
+unfolding has
+has-append c [] b ha hb = hb
+has-append c (x ∷ a) b ha hb = step (eqb x c) (has c a) (has c (a ++ b)) ha (λ h. has-append c a b h hb)
+  where
+    step : (p q r : Bool) → (p || q) ≡ false → (q ≡ false → r ≡ false) → (p || r) ≡ false
+    step true q r e h = no-false e
+    step false q r e h = h e
+
+pub has-here : (c : ℕ) (a b : List ℕ) → has c (a ++ c ∷ b) ≡ true
+unfolding has
+has-here c [] b = rw (eq-eqb c c refl)
+has-here c (x ∷ a) b = or-true (eqb x c) (has-here c a b)
+  where
+    or-true : (p : Bool) {q : Bool} → q ≡ true → (p || q) ≡ true
+    or-true true e = refl
+    or-true false e = e
+
+-- bytes are cut behind the last c in one way
+pub one-cut : (c : ℕ) (a b u v : List ℕ) → has c u ≡ false → has c v ≡ false → a ++ c ∷ u ≡ b ++ c ∷ v → (a ≡ b) × (u ≡ v)
+one-cut c [] [] u v hu hv e = (refl, cc)
+one-cut c [] (y ∷ b) u v hu hv e =
+    let f : u ≡ b ++ c ∷ v = cc in
+    no-false (sym (ap (has c) f ∙ has-here c b v) ∙ hu)
+one-cut c (x ∷ a) [] u v hu hv e =
+    let f : v ≡ a ++ c ∷ u = cc in
+    no-false (sym (ap (has c) f ∙ has-here c a u) ∙ hv)
+one-cut c (x ∷ a) (y ∷ b) u v hu hv e =
+    let f : a ++ c ∷ u ≡ b ++ c ∷ v = cc in
+    let h : x ≡ y = cc in
+    let r = one-cut c a b u v hu hv f in
+    (ap₂ (λ (z : ℕ) (l : List ℕ). z ∷ l) h (r .0), r .1)
+
+pub has-none : (c : ℕ) (s : List ℕ) → has c (drop (length s) s) ≡ false
+unfolding has
+has-none c s = rw (drop-length s)
+
+-- one step back over a byte that is not c, and where the walk back stops
+pub has-back : (c : ℕ) (s : List ℕ) (i : ℕ) → 0 < i → i ≤ length s → (getD s (i - 1) 0 ≡ c → ⊥) → has c (drop i s) ≡ false → has c (drop (i - 1) s) ≡ false
+unfolding has
+has-back c s i low high n h =
+    let e : suc (i - 1) ≡ i = omega arith in
+    rw (rw e at (drop-cons s (i - 1) 0 (omega arith)), ne-eqb (getD s (i - 1) 0) c n) h
+
+module _ (c : ℕ) (s : List ℕ) (i : ℕ) (b : BehindLast c s i) where
+  -- the bytes around the last c
+  pub cut : 0 < i → take (i - 1) s ++ c ∷ drop i s ≡ s
+  cut low =
+      let inside = b .inside in
+      let k : suc (i - 1) ≡ i = omega arith in
+      sym (rw (k, b .last low) at (split-at s (i - 1) 0 (omega arith)))
+
+  -- where the bytes are a c between others, of which those behind have none
+  pub known-cut : (a u : List ℕ) → has c u ≡ false → a ++ c ∷ u ≡ s → (0 < i) × (a ≡ take (i - 1) s) × (u ≡ drop i s)
+  known-cut a u h e =
+      elim (decLt 0 i) [
+        | yes low ↦
+            let k = one-cut c a (take (i - 1) s) u (drop i s) h (b .behind) (e ∙ sym (cut low)) in
+            (low, k .0, k .1)
+        | no at-start ↦
+            let z : i ≡ 0 = omega arith in
+            no-false (sym (has-here c a u) ∙ ap (has c) e ∙ rw z at (b .behind))
+      ]
+
+same-place : (c : ℕ) (s : List ℕ) (i j : ℕ) → BehindLast c s i → BehindLast c s j → 0 < i → i ≡ j
+same-place c s i j b d low =
+    let k = known-cut c s j d (take (i - 1) s) (drop i s) (b .behind) (cut c s i b low) in
+    let count = sym (length-drop i s) ∙ ap length (k .2) ∙ length-drop j s in
+    omega (arith, b .inside, d .inside)
+
+pub one-place : (c : ℕ) (s : List ℕ) (i j : ℕ) → BehindLast c s i → BehindLast c s j → i ≡ j
+one-place c s i j b d =
+    elim (decLt 0 i) [
+      | yes low ↦ same-place c s i j b d low
+      | no at-start ↦
+          elim (decLt 0 j) [
+            | yes low ↦ sym (same-place c s j i d b low)
+            | no also ↦ omega arith
+          ]
+    ]
+
+-- ---- parts of bytes
+-- what a slice from q on holds
+pub rest : (q : ℕ) (s : List ℕ) → take (length s - q) (drop q s) ≡ drop q s
+rest q s =
+    let all = length-drop q s in
+    take-all (length s - q) (drop q s) (omega arith)
+
+-- bytes and their last two
+pub last-two : (s : List ℕ) → 2 ≤ length s → take (length s - 2) s ++ getD s (length s - 2) 0 ∷ getD s (length s - 1) 0 ∷ [] ≡ s
+last-two s h =
+    let k : suc (length s - 2) ≡ length s - 1 = omega arith in
+    let l : suc (length s - 1) ≡ length s = omega arith in
+    let first = rw k at (drop-cons s (length s - 2) 0 (omega arith)) in
+    let second = rw l at (drop-cons s (length s - 1) 0 (omega arith)) in
+    let tail : getD s (length s - 2) 0 ∷ getD s (length s - 1) 0 ∷ [] ≡ drop (length s - 2) s = rw (first, second, drop-length s) in
+    rw tail (take-append-drop (length s - 2) s)

@@ -1,0 +1,51 @@
+-- Wrappers: their words, and the phrases that begin with them.
+use mathlib.Core.List.{List, [], _∷_, _++_}
+use Prim.Native.Nat.{ℕ, pred, _≤_}
+use Prim.Native.String.{String}
+use lib.ListN.{length, getD}
+use Rattle.words.specs.Text.{bytes}
+use Rattle.words.specs.Told.{Grammar}
+use Rattle.calendar.specs.declared.weekday.Side.the-variants.{After, Before}
+use Rattle.calendar.specs.declared.weekday.Side.{Side}
+use Rattle.words.specs.declared.wrapper.Lead.the-variants.{Wrapped}
+use Rattle.words.specs.declared.wrapper.Lead.{Lead}
+use Rattle.words.specs.declared.wrapper.Wrapper.the-variants.{Eve, Morrow, Octave, First}
+use Rattle.words.specs.declared.wrapper.Wrapper.{Wrapper}
+
+-- "Weekdays: mon, tue, wed, thu, fri, sat, sun."
+abbrev pub weekdayWords : List String
+weekdayWords = "mon" ∷ "tue" ∷ "wed" ∷ "thu" ∷ "fri" ∷ "sat" ∷ "sun" ∷ []
+
+-- the word of the weekday w from 1 to 7
+abbrev pub weekdayWord : ℕ → List ℕ
+weekdayWord w = bytes (getD weekdayWords (pred w) "")
+
+abbrev pub sideWord : Side → List ℕ
+sideWord After = bytes " after "
+sideWord Before = bytes " before "
+
+-- the words of a wrapper, with the space behind them; First x w is the weekday w "after" or "before"
+abbrev pub wrapperWords : Wrapper → List ℕ
+wrapperWords Eve = bytes "eve of "
+wrapperWords Morrow = bytes "morrow of "
+wrapperWords Octave = bytes "octave of "
+wrapperWords (First x w) = weekdayWord w ++ sideWord x
+
+-- a weekday's number lies from 1 to 7
+abbrev pub GoodWrapper : Wrapper → Type 0
+GoodWrapper Eve = Unit
+GoodWrapper Morrow = Unit
+GoodWrapper Octave = Unit
+GoodWrapper (First x w) = (1 ≤ w) × (w ≤ 7)
+
+-- a wrapper's words before any bytes
+pub record Leading : Type 0 where
+  pub wrapper : Wrapper
+  pub rest : List ℕ
+
+abbrev pub leadings : Grammar
+leadings = record { Tree = Leading; Good = λ x. GoodWrapper (x .wrapper); spell = λ x. wrapperWords (x .wrapper) ++ x .rest }
+
+-- the wrapper, and how many bytes its words take
+abbrev pub lead : Leading → Lead
+lead x = Wrapped (x .wrapper) (length (wrapperWords (x .wrapper)))
