@@ -4,6 +4,7 @@
 # The whole test; the last line is rt ci's 'N passed, 0 failed'.
 check: kit
 	rt fmt --check
+	tests/feasts
 	tests/second
 	tests/c/run
 	rt ci
