@@ -1,7 +1,9 @@
 /*
  * Qashmelvit tells the day that a dating line of an old letter names, such as "tue after quasimodo 1587 G", in the Julian or in the
- * Gregorian style. Each call has one answer for every input, keeps nothing between calls, and changes no byte that it is lent. The archive
- * libqashmelvit.a is for x86-64.
+ * Gregorian style. Each call has one answer for every input, keeps nothing between calls, so that threads may call at once, and changes no
+ * byte that it is lent. The archive libqashmelvit.a is for x86-64, and is linked by
+ *
+ *     cc tag.c $(pkg-config --cflags --libs qashmelvit)
  *
  * A day is a Julian Day Number. A style is a number, and serves the days of its span:
  *
@@ -11,11 +13,16 @@
  * A call that answers a day answers the day or the number of a refusal, the lowest that holds. No day is below 1721424, so that a
  * number below that is a refusal:
  *
- *     uint32_t answer = qv_line((const uint8_t *)text, strlen(text));
- *     if (answer < QV_FIRST_DAY) refused(answer); else found(answer);
+ *     const uint8_t *line = (const uint8_t *)text;
+ *     size_t length = strlen(text);
+ *     uint32_t answer = qv_line(line, length);
+ *     if (answer < QV_FIRST_DAY)
+ *         refused(answer);
+ *     else
+ *         found(answer, qv_part_start(line, length), qv_part_length(line, length));
  *
- * A dating line is lower-case ASCII but for the style letter, has one space between its parts and none at its ends, and no line feed or
- * zero byte behind it:
+ * A dating line is lower-case ASCII but for the style letter, has one space between its parts and none at its ends, and no carriage return,
+ * line feed or zero byte behind it:
  *
  *     line      phrase year style         such as "eve of easter 1225 J"
  *     phrase    a feast word, or a date, or a wrapper before a phrase
