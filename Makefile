@@ -1,5 +1,7 @@
 .POSIX:
-.PHONY: check answers kit
+.PHONY: check answers lib program install uninstall kit
+
+PREFIX = /usr/local
 
 # The whole test; the last line is rt ci's 'N passed, 0 failed'.
 check: kit
@@ -13,6 +15,21 @@ check: kit
 answers: kit
 	@rt check days_cases church_cases >&2
 	@cat target/log/days_cases.stdout target/log/church_cases.stdout
+
+# The archive for C programs, target/staticlib/libqashmelvit.a.
+lib: kit
+	rt staticlib qashmelvit
+
+# The program that reads dating lines, target/bin/datelines.
+program: kit
+	rt check datelines
+
+# Header, archive, pkg-config file, program and manual pages, below DESTDIR and PREFIX.
+install: lib program
+	packaging/install '$(DESTDIR)' '$(PREFIX)'
+
+uninstall:
+	packaging/uninstall '$(DESTDIR)' '$(PREFIX)'
 
 # The kit is the one that the project is proved with.
 kit:
