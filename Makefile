@@ -9,6 +9,7 @@ check: kit
 	tests/feasts
 	tests/second
 	tests/c/run
+	tests/install
 	rt ci
 
 # The worked calls with their answers, from the proved library.
