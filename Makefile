@@ -1,5 +1,5 @@
 .POSIX:
-.PHONY: check answers lib program install uninstall kit
+.PHONY: check answers lib install uninstall kit
 
 PREFIX = /usr/local
 
@@ -21,12 +21,9 @@ answers: kit
 lib: kit
 	rt staticlib qashmelvit
 
-# The program that reads dating lines, target/bin/datelines.
-program: kit
-	rt check datelines
-
 # Header, archive, pkg-config file, program and manual pages, below DESTDIR and PREFIX.
-install: lib program
+install: lib
+	rt check datelines
 	packaging/install '$(DESTDIR)' '$(PREFIX)'
 
 uninstall:
