@@ -14,6 +14,7 @@ refusalNumber Date = 5
 refusalNumber Span = 6
 
 -- "The lowest number that holds is given, and none otherwise": refused unless the test is passed, and else what comes after it
-abbrev pub unless : {A : Type 0} → Bool → A → A → A
-unless true refused answer = answer
-unless false refused answer = refused
+module _ {ℓ} {A : Type ℓ} where
+  abbrev pub unless : Bool → A → A → A
+  unless true refused answer = answer
+  unless false refused answer = refused

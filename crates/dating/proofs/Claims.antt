@@ -9,25 +9,33 @@ use lib.ListN.{length, take, drop}
 use denote.Ref.{RefT, ptr, now}
 use Rattle.calendar.proofs.span.Laws.{span-small}
 use Rattle.words.proofs.text.Laws.{no-false}
+use Rattle.dating.proofs.answer.Laws as answer-laws
 use Rattle.dating.proofs.line.Laws as line-laws
 use Rattle.dating.proofs.part.Laws as part-laws
 use Rattle.dating.proofs.phrase.Laws as phrase-laws
 use Rattle.dating.proofs.phrase.Laws.{later}
+use Rattle.dating.proofs.writer.Laws as writer-laws
 use Rattle.calendar.specs.Range.{between}
 use Rattle.calendar.specs.Span.{inSpan, within, dayOrRefusal}
+use Rattle.calendar.specs.Style.{styleNumber}
 use Rattle.calendar.specs.Year.{served}
 use Rattle.words.specs.Told.{produced, unproduced}
 use Rattle.dating.specs.Act.{moved, acted}
 use Rattle.dating.specs.Anchor.{anchorDay}
+use Rattle.dating.specs.Answer.{IsAnswer, PutsAnswer}
 use Rattle.dating.specs.Line.{Line, spellLine, GoodLine, lineDay, LineTold, unfit, fit, IsDayOfLine, IsNumberOfLine}
 use Rattle.dating.specs.Part.{Part, IsPart, PartOf}
 use Rattle.dating.specs.Phrase.{Phrase, plain, wrapped, anchorOf, wrappersAct, phraseDay}
-use Rattle.calendar.specs.declared.refusal.Refusal.the-variants.{Name, Length, Form, Year, Date, Span}
+use Rattle.dating.specs.Writer.{Writes}
 use Rattle.calendar.specs.declared.refusal.Refusal.{Refusal}
-use Rattle.calendar.specs.declared.span.DayAnswer.the-variants.{Day, NoDay}
+use Rattle.calendar.specs.declared.refusal.Refusal.the-variants.{Name, Length, Form, Year, Date, Span}
 use Rattle.calendar.specs.declared.span.DayAnswer.{DayAnswer}
+use Rattle.calendar.specs.declared.span.DayAnswer.the-variants.{Day, NoDay}
+use Rattle.calendar.specs.declared.style.Style.{Style}
 use Rattle.calendar.specs.declared.year.NamedYear.{NamedYear}
 use Rattle.words.specs.declared.wrapper.Wrapper.{Wrapper}
+use Rattle.dating.specs.declared.writer.WriteAnswer.{WriteAnswer}
+use Rattle.dating.specs.declared.writer.WriteAnswer.the-variants.{Bytes}
 
 -- No bytes are spelled by two good lines.
 pub one-reading : (l m : Line) → GoodLine l → GoodLine m → spellLine l ≡ spellLine m → l ≡ m
@@ -146,3 +154,20 @@ refused-by-3 s = (forth, λ k. fit (k .0) (unproduced (k .1) refl))
     forth (unfit b m) = absurd (omega arith)
     forth (fit b (produced l g e m)) = no-phrase 3 (omega arith) (rw (← m) at (line-number l g))
     forth (fit b (unproduced none m)) = (b, none)
+
+-- Any two results of the writer are one: the same answer, and the same bytes in the buffer.
+pub one-writing : (k n : ℕ) (before a b : List ℕ) (r q : WriteAnswer) → Writes before a r k n → Writes before b q k n → (r ≡ q) × (a ≡ b)
+one-writing k n before a b r q h g = writer-laws.one-writing k n before a b r q h g
+
+-- Every day of a style's span is written where the buffer has 12 bytes, and the bytes written, read as a dating line, give the same day.
+pub read-back : (s : Style) (n : ℕ) (before after : List ℕ) (r : WriteAnswer) → 12 ≤ length before → inSpan s n ≡ true
+    → Writes before after r (styleNumber s) n → (c : ℕ) × ((r ≡ Bytes c) × IsDayOfLine (take c after) (Day n))
+read-back s n before after r room i h = writer-laws.read-back s n before after r room i h
+
+-- A line has one answer.
+pub one-text : (s t u : List ℕ) → IsAnswer s t → IsAnswer s u → t ≡ u
+one-text s t u h k = answer-laws.one-answer s t u h k
+
+-- Any two results of putting a line's answer are one: the same length, and the same bytes in the buffer.
+pub one-putting : (s : List ℕ) (i : ℕ) (before a b : List ℕ) (r q : ℕ) → PutsAnswer s i before a r → PutsAnswer s i before b q → (r ≡ q) × (a ≡ b)
+one-putting s i before a b r q h g = answer-laws.one-putting s i before a b r q h g

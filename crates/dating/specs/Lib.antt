@@ -4,4 +4,6 @@ pub mod Anchor
 pub mod Phrase
 pub mod Line
 pub mod Part
+pub mod Writer
+pub mod Answer
 pub mod Steps

@@ -22,7 +22,7 @@ pub(crate) enum Ending {
 }
 
 // The style whose letter a byte is.
-fn style_of_letter(letter: u8) -> StyleAnswer
+pub(crate) fn style_of_letter(letter: u8) -> StyleAnswer
     ensures { λ r. ⌜ Told letters Known (NoStyle Form) (letter ∷ []) r ⌝ }
 {
     if letter == b'J' {

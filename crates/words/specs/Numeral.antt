@@ -15,9 +15,9 @@ unfoldable pub decimal : ℕ → ℕ → List ℕ
 decimal zero n = digit n ∷ []
 decimal (suc k) n = cond (ltb n 10) (digit n ∷ []) (decimal k (n / 10) ++ digit (n % 10) ∷ [])
 
--- the numeral of a number from 1 to 9999: "1 to 4 digits, the first not 0"
+-- the numeral of a number of up to twenty digits, as every 64-bit number is
 abbrev pub numeral : ℕ → List ℕ
-numeral n = decimal 3 n
+numeral n = decimal 19 n
 
 -- the numbers from 1 to high, spelled in some way
 abbrev pub numbers : ℕ → (ℕ → List ℕ) → Grammar

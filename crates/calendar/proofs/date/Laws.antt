@@ -4,7 +4,7 @@ use mathlib.Core.Path.{_≡_, refl, sym, _∙_}
 use Prim.Native.Nat.{ℕ, suc, pred, _+_, _≤_}
 use native.Mathlib.Omega.{arith}
 use Rattle.calendar.proofs.date.Dates.{date-bounds, bounds-date, Dated, DatedOn, year-of, one-date, next-dated, every-day}
-use Rattle.calendar.proofs.date.Months.{leap-day}
+use Rattle.calendar.proofs.date.Months.{leap-day, month-small}
 use Rattle.calendar.proofs.range.Laws.{in-range}
 use Rattle.calendar.proofs.refusal.Laws.{no-day, passed}
 use Rattle.calendar.proofs.span.Laws.{span-small, served-small, span-end, year-served, after-start}
@@ -31,6 +31,15 @@ dated s n y m d e =
     let r = passed (inSpan s (dayNumber s y m d)) Span _ n (q .1) in
     let number : dayNumber s y m d ≡ n = cc (r .1) in
     (rw number at (r .0), record { year = served-small s y (p .0) .0; date = date-bounds s y m d (q .0); number = number })
+
+-- its numbers are small
+pub date-small : (s : Style) (n y m d : ℕ) → dayInYear (named s y) m d ≡ Day n → ((1 ≤ d) × (d ≤ 31)) × ((1 ≤ m) × (m ≤ 12)) × ((1 ≤ y) × (y ≤ 9999))
+unfolding dayInYear
+date-small s n y m d e =
+    let b = dated s n y m d e .1 .date in
+    let k : suc (pred m) ≡ m = omega (arith, b .month-low) in
+    let most = rw k at (month-small (leap s y) (pred m) (omega (arith, b .month-low, b .month-high))) in
+    ((b .day-low, omega (arith, b .day-high)), (b .month-low, b .month-high), served-small s y (passed (served s y) Year _ n e .0))
 
 -- and the date of a day of the span is answered with it: its year is served
 pub has-day : (s : Style) (n y m d : ℕ) → inSpan s n ≡ true → Dated s n y m d → dayInYear (named s y) m d ≡ Day n

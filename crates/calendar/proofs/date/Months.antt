@@ -33,6 +33,13 @@ pub month-has-days : (b : Bool) (m : ℕ) → m < 12 → 1 ≤ monthLength b (su
 unfolding some-test
 month-has-days b m h = leb→le _ _ (of-both some-test 12 tt b m h)
 
+small-test : Bool → ℕ → Bool
+small-test b k = leb (monthLength b (suc k)) 31
+
+pub month-small : (b : Bool) (m : ℕ) → m < 12 → monthLength b (suc m) ≤ 31
+unfolding small-test
+month-small b m h = leb→le _ _ (of-both small-test 12 tt b m h)
+
 -- the days of a year are those of its months
 pub year-days : (b : Bool) → daysOfMonths b 12 ≡ cond b 366 365
 unfolding daysOfMonths

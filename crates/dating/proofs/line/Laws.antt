@@ -20,16 +20,16 @@ use Rattle.words.specs.Told.{Told, produced, unproduced}
 use Rattle.dating.specs.Line.{Line, ending, GoodYear, spellLine, GoodLine, lines, lineDay, LineTold, unfit, fit, IsDayOfLine}
 use Rattle.dating.specs.Phrase.{spellPhrase, phraseDay}
 use Rattle.dating.specs.Steps.{phrases, letters, Ended, endings, endAt}
-use Rattle.calendar.specs.declared.refusal.Refusal.the-variants.{Length, Form}
 use Rattle.calendar.specs.declared.refusal.Refusal.{Refusal}
-use Rattle.calendar.specs.declared.span.DayAnswer.the-variants.{NoDay}
+use Rattle.calendar.specs.declared.refusal.Refusal.the-variants.{Length, Form}
 use Rattle.calendar.specs.declared.span.DayAnswer.{DayAnswer}
-use Rattle.calendar.specs.declared.style.Style.the-variants.{Julian, Gregorian}
+use Rattle.calendar.specs.declared.span.DayAnswer.the-variants.{NoDay}
 use Rattle.calendar.specs.declared.style.Style.{Style}
+use Rattle.calendar.specs.declared.style.Style.the-variants.{Julian, Gregorian}
 use Rattle.calendar.specs.declared.style.StyleAnswer.the-variants.{Known, NoStyle}
 use Rattle.calendar.specs.declared.year.NamedYear.{NamedYear}
-use Rattle.dating.specs.declared.line.Ending.the-variants.{At, NoEnding}
 use Rattle.dating.specs.declared.line.Ending.{Ending}
+use Rattle.dating.specs.declared.line.Ending.the-variants.{At, NoEnding}
 
 -- ---- style letters
 pub no-letter : (x : ℕ) → (x ≡ styleLetter Julian → ⊥) → (x ≡ styleLetter Gregorian → ⊥) → Told letters Known (NoStyle Form) (x ∷ []) (NoStyle Form)
@@ -39,7 +39,7 @@ no-letter x no-j no-g = unproduced (λ s g e. none s e) refl
     none Julian e = no-j (sym cc)
     none Gregorian e = no-g (sym cc)
 
-one-letter : (s t : Style) → styleLetter s ≡ styleLetter t → s ≡ t
+pub one-letter : (s t : Style) → styleLetter s ≡ styleLetter t → s ≡ t
 one-letter Julian Julian e = refl
 one-letter Julian Gregorian e = absurd (omega arith)
 one-letter Gregorian Julian e = absurd (omega arith)
@@ -50,11 +50,11 @@ unfolding has
 no-space Julian = refl
 no-space Gregorian = refl
 
-letter-told : (x : ℕ) (s : Style) → Told letters Known (NoStyle Form) (x ∷ []) (Known s) → styleLetter s ≡ x
+pub letter-told : (x : ℕ) (s : Style) → Told letters Known (NoStyle Form) (x ∷ []) (Known s) → styleLetter s ≡ x
 letter-told x s (produced t g e m) = let same : s ≡ t = cc in let byte : styleLetter t ≡ x = cc in ap styleLetter same ∙ byte
 letter-told x s (unproduced none m) = no-false cc
 
-letter-untold : (x : ℕ) (f : Refusal) (s : Style) → Told letters Known (NoStyle Form) (x ∷ []) (NoStyle f) → styleLetter s ≡ x → ⊥
+pub letter-untold : (x : ℕ) (f : Refusal) (s : Style) → Told letters Known (NoStyle Form) (x ∷ []) (NoStyle f) → styleLetter s ≡ x → ⊥
 letter-untold x f s (produced t g e m) h = no-false cc
 letter-untold x f s (unproduced none m) h = none s tt (ap (λ (c : ℕ). c ∷ []) h)
 
@@ -145,6 +145,11 @@ module _ (s : List ℕ) where
           (rw (length-take-le (i - 1) front (omega arith)))
 
 -- ---- lines
+-- the last byte of a line is its style's letter
+pub last-letter : (s : List ℕ) (l : Line) → spellLine l ≡ s → (1 ≤ length s) × (getD s (length s - 1) 0 ≡ styleLetter (l .named .style))
+unfolding spellLine
+last-letter s l e = let k = ended s (record { front = spellPhrase (l .phrase); named = l .named }) e in (omega (arith, k .0), k .1 .1 .1)
+
 pub one-line : OneReading lines
 unfolding spellLine
 one-line l m g h e =

@@ -3,10 +3,11 @@ use mathlib.Core.Bool.{Bool, true, false, _&&_, _||_, cond}
 use mathlib.Core.List.{List, [], _∷_, _++_}
 use mathlib.Core.Path.{_≡_, refl, sym, _∙_, ap, subst}
 use Prim.Native.Nat.{ℕ, zero, suc, _+_, _-_, _*_, _/_, _%_, _<_, _≤_}
+use native.Mathlib.Decide.{decLt}
 use native.Mathlib.Numerals.{add-one}
 use native.Mathlib.Omega.{arith}
 use lib.Dec.{eqb, ltb}
-use lib.ListN.{length, take, getD}
+use lib.ListN.{length, take, getD, length-append}
 use lib.Seq.{length-take-le, take-suc, take-all}
 use borrow.Author.Tests.{eqb-true, ne-eqb, ltb-true, lt-ltb, le-ltb}
 use Rattle.calendar.proofs.range.Laws.{range}
@@ -92,27 +93,71 @@ pub one-numeral : (high : ℕ) → OneReading (numerals high)
 one-numeral high n m g h e = one-number n m (g .0) (omega (arith, g)) (h .0) (omega (arith, h)) e
 
 -- ---- a numeral grows by a digit
-fuel : (n : ℕ) → n ≤ 999 → decimal 2 n ≡ decimal 3 n
-unfolding decimal
-fuel n h = go (ltb n 10) (ltb (n / 10) 10) refl
-  where
-    go : (a b : Bool) → ltb (n / 10) 10 ≡ b
-        → cond a (digit n ∷ []) (cond b (digit (n / 10) ∷ []) (decimal 0 (n / 10 / 10) ++ digit (n / 10 % 10) ∷ []) ++ digit (n % 10) ∷ [])
-        ≡ cond a (digit n ∷ []) (cond b (digit (n / 10) ∷ []) (decimal 1 (n / 10 / 10) ++ digit (n / 10 % 10) ∷ []) ++ digit (n % 10) ∷ [])
-    go true b e = refl
-    go false true e = refl
-    go false false e = rw (lt-ltb (n / 10 / 10) 10 (omega arith))
+-- the numbers of up to suc k digits lie below it
+tens : ℕ → ℕ
+tens zero = 10
+tens (suc k) = 10 * tens k
 
-one-digit : (d : ℕ) → d ≤ 9 → numeral d ≡ digit d ∷ []
+enough : (k n : ℕ) → n < tens k → decimal (suc k) n ≡ decimal k n
+unfolding decimal tens
+enough zero n h = rw (lt-ltb n 10 h)
+enough (suc k) n h = rw (enough k (n / 10) (omega arith))
+
+pub one-digit : (n : ℕ) → n ≤ 9 → numeral n ≡ digit n ∷ []
 unfolding decimal
-one-digit d h = rw (lt-ltb d 10 (omega arith))
+one-digit n h = rw (lt-ltb n 10 (omega arith))
+
+-- 2 ^ 64 at most
+pub more-digits : (n : ℕ) → 10 ≤ n → n ≤ 18446744073709551616 → numeral n ≡ numeral (n / 10) ++ digit (n % 10) ∷ []
+unfolding decimal tens
+more-digits n low high = rw (le-ltb n 10 low, ← enough 18 (n / 10) (omega arith))
 
 grown : (n d : ℕ) → 1 ≤ n → n ≤ 999 → d ≤ 9 → numeral (10 * n + d) ≡ numeral n ++ digit d ∷ []
-unfolding decimal
 grown n d low high h =
     let q : (10 * n + d) / 10 ≡ n = omega arith in
     let r : (10 * n + d) % 10 ≡ d = omega arith in
-    rw (le-ltb (10 * n + d) 10 (omega arith), q, r, fuel n high)
+    rw (q, r) at (more-digits (10 * n + d) (omega arith) (omega arith))
+
+-- ---- how many digits a numeral has
+decimal-length : (k n : ℕ) → (1 ≤ length (decimal k n)) × (length (decimal k n) ≤ suc k)
+unfolding decimal
+decimal-length zero n = (omega arith, omega arith)
+decimal-length (suc k) n = go (ltb n 10) (decimal-length k (n / 10))
+  where
+    go : (b : Bool) → (1 ≤ length (decimal k (n / 10))) × (length (decimal k (n / 10)) ≤ suc k)
+        → (1 ≤ length (cond b (digit n ∷ []) (decimal k (n / 10) ++ digit (n % 10) ∷ []))) × (length (cond b (digit n ∷ []) (decimal k (n / 10) ++ digit (n % 10) ∷ [])) ≤ suc (suc k))
+    go true h = (omega arith, omega arith)
+    go false h = let l = length-append (decimal k (n / 10)) (digit (n % 10) ∷ []) in (omega (arith, h), omega (arith, h))
+
+pub numeral-length : (n : ℕ) → (1 ≤ length (numeral n)) × (length (numeral n) ≤ 20)
+numeral-length n = decimal-length 19 n
+
+pub more-length : (n : ℕ) → 10 ≤ n → n ≤ 18446744073709551616 → length (numeral n) ≡ length (numeral (n / 10)) + 1
+more-length n low high = ap length (more-digits n low high) ∙ length-append (numeral (n / 10)) (digit (n % 10) ∷ [])
+
+short : (k n : ℕ) → n < tens k → n ≤ 18446744073709551616 → length (numeral n) ≤ suc k
+unfolding tens
+short zero n h high = rw (one-digit n (omega arith)) (omega arith)
+short (suc k) n h high =
+    elim (decLt n 10) [
+      | yes l ↦ rw (one-digit n (omega arith)) (omega arith)
+      | no l ↦
+          let more = more-length n (omega arith) high in
+          let less = short k (n / 10) (omega arith) (omega arith) in
+          omega arith
+    ]
+
+pub two-digits : (n : ℕ) → n ≤ 99 → length (numeral n) ≤ 2
+unfolding tens
+two-digits n h = short 1 n (omega arith) (omega arith)
+
+pub four-digits : (n : ℕ) → n ≤ 9999 → length (numeral n) ≤ 4
+unfolding tens
+four-digits n h = short 3 n (omega arith) (omega arith)
+
+pub seven-digits : (n : ℕ) → n ≤ 9999999 → length (numeral n) ≤ 7
+unfolding tens
+seven-digits n h = short 6 n (omega arith) (omega arith)
 
 -- ---- reading, byte by byte
 pub no-numeral : (high : ℕ) (s : List ℕ) → (Shape s → ⊥) → Told (numerals high) (λ n. n) 0 s 0

@@ -1,0 +1,129 @@
+-- Readings of a line, and the text that tells one.
+use mathlib.Core.Bool.{Bool, true, false}
+use mathlib.Core.List.{List, [], _∷_, _++_, append-assoc}
+use mathlib.Core.Logic.{_⊎_, inl, inr}
+use mathlib.Core.Path.{_≡_, refl, sym, _∙_, ap}
+use Prim.Native.Nat.{ℕ, _+_, _-_, _≤_, _<_}
+use native.Mathlib.Omega.{arith}
+use lib.Dec.{leb}
+use lib.ListN.{length, set, getD, length-append}
+use lib.Seq.{sets}
+use borrow.Author.Tests.{le-leb, lt-leb}
+use Rattle.calendar.proofs.span.Laws.{span-small}
+use Rattle.words.proofs.numeral.Laws.{one-digit, seven-digits}
+use Rattle.words.proofs.text.Laws.{no-false}
+use Rattle.dating.proofs.line.Laws as line-laws
+use Rattle.dating.proofs.line.Laws.{one-letter, letter-told, letter-untold, last-letter}
+use Rattle.dating.proofs.phrase.Laws.{phrase-in-span}
+use Rattle.dating.proofs.writer.Laws as writer-laws
+use Rattle.dating.proofs.writer.Laws.{put-on, put-byte, field-length}
+use Rattle.calendar.specs.Refusal.{refusalNumber, unless}
+use Rattle.calendar.specs.Span.{inSpan}
+use Rattle.calendar.specs.Weekday.{weekday, weekdayInStyle, weekdayOrZero}
+use Rattle.words.specs.Text.{space}
+use Rattle.words.specs.Told.{Told, produced, unproduced}
+use Rattle.dating.specs.Answer.{lineFeed, Reading, dated, refused, IsReading, datedText, AnswerText, IsAnswer, PutsAnswer}
+use Rattle.dating.specs.Line.{lineDay, unfit, fit, IsDayOfLine}
+use Rattle.dating.specs.Steps.{letters, Put, field, dayFields, PutsDate, PutsReading}
+use Rattle.calendar.specs.declared.refusal.Refusal.{Refusal}
+use Rattle.calendar.specs.declared.refusal.Refusal.the-variants.{Name, Length, Form, Year, Date, Span}
+use Rattle.calendar.specs.declared.span.DayAnswer.the-variants.{Day, NoDay}
+use Rattle.calendar.specs.declared.style.Style.{Style}
+use Rattle.calendar.specs.declared.style.StyleAnswer.{StyleAnswer}
+use Rattle.calendar.specs.declared.style.StyleAnswer.the-variants.{Known, NoStyle}
+
+-- ---- readings
+-- the line that an accepted line's bytes spell
+module _ (s : List ℕ) (n : ℕ) where
+  pub some-bytes : IsDayOfLine s (Day n) → 1 ≤ length s
+  some-bytes (unfit b m) = no-false cc
+  some-bytes (fit b (unproduced none m)) = no-false cc
+  some-bytes (fit b (produced l g e m)) = last-letter s l e .0
+
+  abbrev Letter : StyleAnswer → Type 0
+  Letter r = Told letters Known (NoStyle Form) (getD s (length s - 1) 0 ∷ []) r
+
+  pub has-letter : (f : Refusal) → IsDayOfLine s (Day n) → Letter (NoStyle f) → ⊥
+  has-letter f (unfit b m) told = no-false cc
+  has-letter f (fit b (unproduced none m)) told = no-false cc
+  has-letter f (fit b (produced l g e m)) told = letter-untold _ f (l .named .style) told (sym (last-letter s l e .1))
+
+  pub day-reading : (t : Style) → IsDayOfLine s (Day n) → Letter (Known t) → IsReading s (dated t n) × (inSpan t n ≡ true)
+  unfolding lineDay
+  day-reading t (unfit b m) told = no-false cc
+  day-reading t (fit b (unproduced none m)) told = no-false cc
+  day-reading t (fit b (produced l g e m)) told =
+      let same : l .named .style ≡ t = one-letter (l .named .style) t (sym (last-letter s l e .1) ∙ sym (letter-told _ t told)) in
+      (fit b (produced l g e (rw (← m, same))), rw same at (phrase-in-span (l .named) (l .phrase) n (sym m)))
+
+pub refused-reading : (s : List ℕ) (x : Refusal) → IsDayOfLine s (NoDay x) → IsReading s (refused x)
+refused-reading s x (unfit b m) = unfit b cc
+refused-reading s x (fit b (unproduced none m)) = fit b (unproduced none cc)
+refused-reading s x (fit b (produced l g e m)) = fit b (produced l g e (rw (← m)))
+
+-- ---- texts
+pub digit-field : (n c : ℕ) → n ≤ 9 → length (field n c) ≡ 2
+digit-field n c h = field-length n c ∙ rw (one-digit n h)
+
+pub refusal-digit : (x : Refusal) → refusalNumber x ≤ 9
+refusal-digit Name = omega arith
+refusal-digit Length = omega arith
+refusal-digit Form = omega arith
+refusal-digit Year = omega arith
+refusal-digit Date = omega arith
+refusal-digit Span = omega arith
+
+-- ---- the text of a day
+module _ (s : Style) (n : ℕ) (h : inSpan s n ≡ true) where
+  pub its-weekday : weekdayOrZero (weekdayInStyle s n) ≡ weekday n
+  its-weekday = rw h
+
+  -- room for the fields before the date
+  pub fields-length : (length (field 0 space) + length (field n space) + length (field (weekday n) space) ≤ 12) × (length (dayFields n) ≤ 12)
+  fields-length =
+      let all = length-append (field 0 space ++ field n space) (field (weekday n) space) in
+      let both = length-append (field 0 space) (field n space) in
+      let zero = digit-field 0 space (omega arith) in
+      let day = field-length n space in
+      let seven = seven-digits n (omega (arith, span-small s n h)) in
+      let on-weekday = digit-field (weekday n) space (omega arith) in
+      (omega arith, omega arith)
+
+pub dated-put : (s : Style) (n : ℕ) {before c d : List ℕ} {i j k : ℕ} → Put before i (dayFields n) c j → PutsDate s n j c d k
+    → PutsReading (dated s n) i before (set d k lineFeed) (k + 1)
+dated-put s n {d = d} {k = k} p t =
+    let w = t .0 in
+    let fields : datedText n w ≡ dayFields n ++ w ++ lineFeed ∷ [] = simp (append-assoc {A = ℕ}) in
+    (datedText n w, ((w, (t .1 .0, refl)), rw fields (put-on (put-on p (t .1 .1)) (put-byte d k lineFeed))))
+
+-- ---- the answer put at a place with room for the longest
+pub room : (i n : ℕ) → 25 ≤ n → i ≤ n - 25 → leb (i + 25) n ≡ true
+room i n h k = le-leb (i + 25) n (omega arith)
+
+pub no-room : (i n : ℕ) → n < 25 ⊎ n - 25 < i → leb (i + 25) n ≡ false
+no-room i n (inl h) = lt-leb (i + 25) n (omega arith)
+no-room i n (inr h) = lt-leb (i + 25) n (omega arith)
+
+pub answered : (s : List ℕ) (i : ℕ) (before : List ℕ) {after : List ℕ} {r : ℕ} (q : Reading) → leb (i + 25) (length before) ≡ true → IsReading s q
+    → PutsReading q i before after r → PutsAnswer s i before after (r - i)
+answered s i before q fits told p = rw fits (p .0, ((q, (told, p .1 .0)), (omega (arith, p .1 .1 .behind), p .1 .1 .bytes)))
+
+-- ---- one answer for each line
+pub one-text : (q : Reading) (t u : List ℕ) → AnswerText q t → AnswerText q u → t ≡ u
+one-text (dated s n) t u h k = h .1 .1 ∙ ap (datedText n) (writer-laws.one-text s n (h .0) (k .0) (h .1 .0) (k .1 .0)) ∙ sym (k .1 .1)
+one-text (refused x) t u h k = h ∙ sym k
+
+pub one-answer : (s t u : List ℕ) → IsAnswer s t → IsAnswer s u → t ≡ u
+one-answer s t u h k =
+    let same : h .0 ≡ k .0 = line-laws.one-answer (h .0) (k .0) (h .1 .0) (k .1 .0) in
+    one-text (k .0) t u (rw same at (h .1 .1)) (k .1 .1)
+
+pub one-putting : (s : List ℕ) (i : ℕ) (before a b : List ℕ) (r q : ℕ) → PutsAnswer s i before a r → PutsAnswer s i before b q → (r ≡ q) × (a ≡ b)
+one-putting s i before a b r q h g = go (leb (i + 25) (length before)) h g
+  where
+    go : (c : Bool) → unless c ((r ≡ 0) × (a ≡ before)) ((t : List ℕ) × (IsAnswer s t × ((r ≡ length t) × (a ≡ sets before i t))))
+        → unless c ((q ≡ 0) × (b ≡ before)) ((t : List ℕ) × (IsAnswer s t × ((q ≡ length t) × (b ≡ sets before i t)))) → (r ≡ q) × (a ≡ b)
+    go false h g = (h .0 ∙ sym (g .0), h .1 ∙ sym (g .1))
+    go true h g =
+        let same = one-answer s (h .0) (g .0) (h .1 .0) (g .1 .0) in
+        (h .1 .1 .0 ∙ ap length same ∙ sym (g .1 .1 .0), h .1 .1 .1 ∙ ap (sets before i) same ∙ sym (g .1 .1 .1))

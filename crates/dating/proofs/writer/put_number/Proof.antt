@@ -1,0 +1,107 @@
+use mathlib.Core.Path.{_≡_, refl, _∙_}
+use Prim.Native.Nat.{_+_, _-_, _%_, _≤_, _<_}
+use native.Mathlib.Omega.{arith}
+use lib.ListN.{length, length-set}
+use lib.Seq.{sets}
+use borrow.Author.Needs.{needs}
+use Rattle.words.proofs.numeral.Laws.{numeral-length, more-length}
+use Rattle.dating.proofs.writer.Laws.{sets-last, last-digit, first-digit, field-length}
+use Rattle.words.specs.Numeral.{numeral}
+use Rattle.dating.proofs.writer.put_number.Statement.{statement}
+use Rattle.dating.proofs.writer.put_number.Tie as tie
+
+abbrev Inv-loop : tie.InvT-loop
+Inv-loop buffer₀ at number behind end i₀ rest₀ buffer i rest = (rest ≤ number) × (i ≡ at + length (numeral rest)) × (i < length buffer) × (length buffer ≡ length buffer₀) × (sets buffer at (numeral rest) ≡ sets buffer₀ at (numeral number))
+
+abbrev μ-loop : tie.MeasureT-loop
+μ-loop buffer₀ at number behind end i₀ rest₀ buffer i rest = rest
+
+add-end : tie.Need-add-end Inv-loop μ-loop
+add-end c =
+    let l = field-length (c .before .before .args .number) (c .before .before .args .behind) in
+    omega (arith, c .digits-of .ensures, (c .before .before .pre))
+
+slice-write-buffer : tie.Need-slice-write-buffer Inv-loop μ-loop
+slice-write-buffer c =
+    let l = field-length (c .before .before .args .number) (c .before .before .args .behind) in
+    omega (arith, c .digits-of .ensures, (c .before .before .pre))
+
+loop-holds : tie.Need-loop-holds Inv-loop μ-loop
+loop-holds c =
+    let s = c .before .before .args .buffer .now in
+    let end = c .before .before .args .at + c .digits-of .result in
+    let l = field-length (c .before .before .args .number) (c .before .before .args .behind) in
+    (omega arith, omega (arith, c .digits-of .ensures), rw (length-set s end (c .before .before .args .behind)) (omega (arith, c .digits-of .ensures, (c .before .before .pre))), refl, refl)
+
+sub-i : tie.Need-sub-i Inv-loop μ-loop
+sub-i c =
+    let l = numeral-length (c .before .loop .rest) .0 in
+    omega (arith, c .before .loop .inv)
+
+slice-write-buffer-2 : tie.Need-slice-write-buffer-2 Inv-loop μ-loop
+slice-write-buffer-2 c = omega (arith, c .before .loop .inv)
+
+loop-less : tie.Need-loop-less Inv-loop μ-loop
+loop-less c = omega (arith, c .loop-test .taken)
+
+loop-again : tie.Need-loop-again Inv-loop μ-loop
+loop-again c =
+    let inv = c .before .loop .inv in
+    let n = c .before .loop .rest in
+    let s = c .before .loop .buffer in
+    let i = c .before .loop .i in
+    let high : n ≤ 18446744073709551616 = omega (arith, inv .0, c .before .before .before .before .fits .number) in
+    let more = more-length n (c .loop-test .taken) high in
+    let same = length-set s (i - 1) (48 + n % 10) in (
+      omega (arith, inv .0),
+      omega (arith, inv .1),
+      rw same (omega (arith, inv .2)),
+      same ∙ inv .3,
+      rw (inv .1) (last-digit s (c .before .before .before .before .args .at) n (c .loop-test .taken) high) ∙ inv .4,
+    )
+
+slice-write-buffer-3 : tie.Need-slice-write-buffer-3 Inv-loop μ-loop
+slice-write-buffer-3 c = omega (arith, c .before .loop .inv)
+
+add-result : tie.Need-add-result Inv-loop μ-loop
+add-result c =
+    let l = field-length (c .before .before .before .before .args .number) (c .before .before .before .before .args .behind) in
+    omega (arith, c .before .before .digits-of .ensures, (c .before .before .before .before .pre))
+
+same-length : tie.Need-same-length Inv-loop μ-loop
+same-length c =
+    length-set (c .before .loop .buffer) (c .before .before .before .before .args .at) (48 + c .before .loop .rest) ∙ c .before .loop .inv .3 ∙ length-set (c .before .before .before .before .args .buffer .now) (c .before .before .before .before .args .at + c .before .before .digits-of .result) (c .before .before .before .before .args .behind)
+
+returns : tie.Need-returns Inv-loop μ-loop
+returns c =
+    let l = field-length (c .before .before .before .before .args .number) (c .before .before .before .before .args .behind) in
+    record {
+      behind = omega (arith, c .before .before .digits-of .ensures);
+      bytes =
+          first-digit (c .before .loop .buffer) (c .before .before .before .before .args .at) (c .before .loop .rest) (omega (arith, c .loop-test .left))
+          ∙ c .before .loop .inv .4
+          ∙ rw (c .before .before .digits-of .ensures) (sets-last (numeral (c .before .before .before .before .args .number)) (c .before .before .before .before .args .buffer .now) (c .before .before .before .before .args .at) (c .before .before .before .before .args .behind));
+    }
+
+pub put-number-spec : {M : Type 1} → statement M
+put-number-spec =
+    tie.close
+    (tie.spec
+    Inv-loop
+    μ-loop
+    (λ c κs. search needs)
+    add-end
+    slice-write-buffer
+    loop-holds
+    sub-i
+    (λ c. search needs)
+    (λ c. search needs)
+    slice-write-buffer-2
+    loop-less
+    loop-again
+    (λ c. search needs)
+    (λ c. search needs)
+    slice-write-buffer-3
+    add-result
+    same-length
+    returns)

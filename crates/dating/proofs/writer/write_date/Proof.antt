@@ -1,0 +1,23 @@
+use mathlib.Core.Path.{refl}
+use borrow.Author.Needs.{needs}
+use Rattle.dating.proofs.writer.write_date.Statement.{statement}
+use Rattle.dating.proofs.writer.write_date.Tie as tie
+
+returns : tie.Need-returns
+returns c =
+    rw (← c .before .before .before .before .before .before .before .style-of .ensures, c .before .before .before .before .before .known .given .1) (c .before .before .write-in-style .ensures)
+
+returns-2 : tie.Need-returns-2
+returns-2 c = rw (← c .before .before .before .style-of .ensures, c .before .refusal .given .1) (refl, refl)
+
+pub write-date-spec : {M : Type 1} → statement M
+write-date-spec =
+    tie.close
+    (tie.spec
+    (λ c κs. search needs)
+    (λ c. search needs)
+    (λ c κs. search needs)
+    (λ c. search needs)
+    (λ c. search needs)
+    returns
+    returns-2)
