@@ -6,7 +6,7 @@ use Prim.Native.Nat.{ℕ, _-_, _<_, _≤_}
 use native.Mathlib.Omega.{arith}
 use lib.ListN.{length, take, drop, length-append}
 use Rattle.words.proofs.Told.{OneReading, number-told, number-untold}
-use Rattle.words.proofs.numeral.Laws.{one-number, numeral-lacks}
+use Rattle.words.proofs.numeral.Laws.{one-number, numeral-lacks, numeral-length}
 use Rattle.words.proofs.text.Laws.{no-false, has-append, has-here, one-cut, cut, known-cut}
 use Rattle.words.proofs.word.Laws.{feast-length, feast-lacks-space, feast-lacks-point, one-feast}
 use Rattle.words.specs.Numeral.{numeral, numerals}
@@ -24,10 +24,14 @@ lacks-space (date d m) g =
     has-append space (numeral d) (point ∷ numeral m) (numeral-lacks space d (omega arith) (g .0 .0) (omega (arith, g)))
     (numeral-lacks space m (omega arith) (g .1 .0) (omega (arith, g)))
 
-pub anchor-some : (a : Anchor) → GoodAnchor a → 1 ≤ length (spellAnchor a)
+pub three-bytes : (a : Anchor) → GoodAnchor a → 3 ≤ length (spellAnchor a)
 unfolding spellAnchor GoodAnchor
-anchor-some (feast f) g = omega (arith, feast-length f (g .0) (g .1))
-anchor-some (date d m) g = omega (arith, length-append (numeral d) (point ∷ numeral m))
+three-bytes (feast f) g = omega (arith, feast-length f (g .0) (g .1))
+three-bytes (date d m) g =
+    let all = length-append (numeral d) (point ∷ numeral m) in
+    let day = numeral-length d .0 in
+    let month = numeral-length m .0 in
+    omega arith
 
 -- ---- one reading
 no-date : {A : Type 0} (f d m : ℕ) → 1 ≤ f → f ≤ 48 → feastWord f ≡ numeral d ++ point ∷ numeral m → A

@@ -3,17 +3,18 @@ use mathlib.Core.Bool.{Bool, true, false}
 use mathlib.Core.List.{List, [], _∷_, _++_, append-assoc}
 use mathlib.Core.Logic.{_⊎_, inl, inr}
 use mathlib.Core.Path.{_≡_, refl, sym, _∙_, ap}
-use Prim.Native.Nat.{ℕ, _+_, _-_, _≤_, _<_}
+use Prim.Native.Nat.{ℕ, _+_, _*_, _-_, _≤_, _<_}
 use native.Mathlib.Omega.{arith}
 use lib.Dec.{leb}
 use lib.ListN.{length, set, getD, length-append}
 use lib.Seq.{sets}
 use borrow.Author.Tests.{le-leb, lt-leb}
+use Rattle.calendar.proofs.date.Laws.{dated as span-of}
 use Rattle.calendar.proofs.span.Laws.{span-small}
 use Rattle.words.proofs.numeral.Laws.{one-digit, seven-digits}
 use Rattle.words.proofs.text.Laws.{no-false}
 use Rattle.dating.proofs.line.Laws as line-laws
-use Rattle.dating.proofs.line.Laws.{one-letter, letter-told, letter-untold, last-letter}
+use Rattle.dating.proofs.line.Laws.{one-letter, letter-told, letter-untold, last-letter, line-length, too-many}
 use Rattle.dating.proofs.phrase.Laws.{phrase-in-span}
 use Rattle.dating.proofs.writer.Laws as writer-laws
 use Rattle.dating.proofs.writer.Laws.{put-on, put-byte, field-length}
@@ -89,12 +90,14 @@ module _ (s : Style) (n : ℕ) (h : inSpan s n ≡ true) where
       let on-weekday = digit-field (weekday n) space (omega arith) in
       (omega arith, omega arith)
 
+text-fields : (n : ℕ) (w : List ℕ) → datedText n w ≡ dayFields n ++ w ++ lineFeed ∷ []
+text-fields n w = simp (append-assoc {A = ℕ})
+
 pub dated-put : (s : Style) (n : ℕ) {before c d : List ℕ} {i j k : ℕ} → Put before i (dayFields n) c j → PutsDate s n j c d k
     → PutsReading (dated s n) i before (set d k lineFeed) (k + 1)
 dated-put s n {d = d} {k = k} p t =
     let w = t .0 in
-    let fields : datedText n w ≡ dayFields n ++ w ++ lineFeed ∷ [] = simp (append-assoc {A = ℕ}) in
-    (datedText n w, ((w, (t .1 .0, refl)), rw fields (put-on (put-on p (t .1 .1)) (put-byte d k lineFeed))))
+    (datedText n w, ((w, (t .1 .0, refl)), rw (text-fields n w) (put-on (put-on p (t .1 .1)) (put-byte d k lineFeed))))
 
 -- ---- the answer put at a place with room for the longest
 pub room : (i n : ℕ) → 25 ≤ n → i ≤ n - 25 → leb (i + 25) n ≡ true
@@ -107,6 +110,38 @@ no-room i n (inr h) = lt-leb (i + 25) n (omega arith)
 pub answered : (s : List ℕ) (i : ℕ) (before : List ℕ) {after : List ℕ} {r : ℕ} (q : Reading) → leb (i + 25) (length before) ≡ true → IsReading s q
     → PutsReading q i before after r → PutsAnswer s i before after (r - i)
 answered s i before q fits told p = rw fits (p .0, ((q, (told, p .1 .0)), (omega (arith, p .1 .1 .behind), p .1 .1 .bytes)))
+
+-- ---- how long an answer is
+dated-length : (s : Style) (n : ℕ) (t : List ℕ) → AnswerText (dated s n) t → length t ≤ 25
+dated-length s n t (w, (date, e)) =
+    let all = ap length (e ∙ text-fields n w) in
+    let front = length-append (dayFields n ++ w) (lineFeed ∷ []) in
+    let both = length-append (dayFields n) w in
+    let head = fields-length s n (span-of s n (date .year) (date .month) (date .day) (date .is-date) .0) .1 in
+    let few = writer-laws.text-length s n w date in
+    omega arith
+
+refused-length : (x : Refusal) (t : List ℕ) → AnswerText (refused x) t → length t ≡ 2
+refused-length x t e = ap length e ∙ digit-field (refusalNumber x) lineFeed (refusal-digit x)
+
+-- at most 25 bytes, and at most four times the bytes of its line with the line feed
+pub answer-length : (s t : List ℕ) → IsAnswer s t → (length t ≤ 25) × (length t ≤ 4 * (length s + 1))
+answer-length s t (q, (told, text)) = go q told text
+  where
+    go : (q : Reading) → IsReading s q → AnswerText q t → (length t ≤ 25) × (length t ≤ 4 * (length s + 1))
+    go (refused x) told text = let two = refused-length x t text in (omega arith, omega arith)
+    go (dated y n) (unfit b m) text = no-false cc
+    go (dated y n) (fit b (unproduced none m)) text = no-false cc
+    go (dated y n) (fit b (produced l g e m)) text =
+        let few = dated-length y n t text in
+        let long = rw e at (line-length l g) in
+        (few, omega arith)
+
+-- a line that is too long is answered as any other that is
+pub overlong : (s u t : List ℕ) → 120 < length s → 120 < length u → IsAnswer s t → IsAnswer u t
+overlong s u t h k (q, (told, text)) =
+    let same : q ≡ refused Length = line-laws.one-answer q (refused Length) told (refused-reading s Length (too-many s h)) in
+    (refused Length, (refused-reading u Length (too-many u k), rw same at text))
 
 -- ---- one answer for each line
 pub one-text : (q : Reading) (t u : List ℕ) → AnswerText q t → AnswerText q u → t ≡ u

@@ -9,16 +9,18 @@ use lib.Seq.{length-take-le, take-append-seam, getD-append-seam, getD-append-add
 use borrow.Author.Tests.{le-leb, lt-leb}
 use Rattle.calendar.proofs.range.Laws.{in-range}
 use Rattle.words.proofs.Told.{OneReading, one-told, told-map, number-told, number-untold}
-use Rattle.words.proofs.numeral.Laws.{one-number, numeral-lacks}
+use Rattle.words.proofs.numeral.Laws.{one-number, numeral-lacks, numeral-length}
 use Rattle.words.proofs.text.Laws.{no-false, one-cut, cut, known-cut, last-two}
+use Rattle.dating.proofs.anchor.Laws.{three-bytes}
 use Rattle.dating.proofs.phrase.Laws.{one-phrase}
 use Rattle.calendar.specs.Range.{between}
 use Rattle.calendar.specs.Style.{styleLetter}
 use Rattle.words.specs.Numeral.{numeral, numerals}
 use Rattle.words.specs.Text.{space, has, BehindLast}
 use Rattle.words.specs.Told.{Told, produced, unproduced}
+use Rattle.words.specs.Wrapper.{wrapperWords}
 use Rattle.dating.specs.Line.{Line, ending, GoodYear, spellLine, GoodLine, lines, lineDay, LineTold, unfit, fit, IsDayOfLine}
-use Rattle.dating.specs.Phrase.{spellPhrase, phraseDay}
+use Rattle.dating.specs.Phrase.{Phrase, plain, wrapped, spellPhrase, GoodPhrase, phraseDay}
 use Rattle.dating.specs.Steps.{phrases, letters, Ended, endings, endAt}
 use Rattle.calendar.specs.declared.refusal.Refusal.{Refusal}
 use Rattle.calendar.specs.declared.refusal.Refusal.the-variants.{Length, Form}
@@ -149,6 +151,25 @@ module _ (s : List ℕ) where
 pub last-letter : (s : List ℕ) (l : Line) → spellLine l ≡ s → (1 ≤ length s) × (getD s (length s - 1) 0 ≡ styleLetter (l .named .style))
 unfolding spellLine
 last-letter s l e = let k = ended s (record { front = spellPhrase (l .phrase); named = l .named }) e in (omega (arith, k .0), k .1 .1 .1)
+
+-- no line is shorter than `1.1 1 J`
+phrase-length : (p : Phrase) → GoodPhrase p → 3 ≤ length (spellPhrase p)
+unfolding spellPhrase GoodPhrase
+phrase-length (plain a) g = three-bytes a g
+phrase-length (wrapped w p) g =
+    let all = length-append (wrapperWords w) (spellPhrase p) in
+    let rest = phrase-length p (g .1) in
+    omega arith
+
+pub line-length : (l : Line) → GoodLine l → 7 ≤ length (spellLine l)
+unfolding spellLine
+line-length l g =
+    let t = l .named in
+    let all = length-append (spellPhrase (l .phrase)) (ending t) in
+    let front = phrase-length (l .phrase) (g .phrase) in
+    let back = length-append (numeral (t .year)) (space ∷ styleLetter (t .style) ∷ []) in
+    let year = numeral-length (t .year) .0 in
+    omega arith
 
 pub one-line : OneReading lines
 unfolding spellLine

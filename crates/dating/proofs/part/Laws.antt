@@ -11,7 +11,7 @@ use denote.Ref.{RefT, ptr, now}
 use Rattle.calendar.proofs.refusal.Laws.{no-day}
 use Rattle.words.proofs.text.Laws.{no-false, has-here, cut, known-cut}
 use Rattle.words.proofs.wrapper.Laws.{spaced}
-use Rattle.dating.proofs.anchor.Laws.{lacks-space, anchor-some}
+use Rattle.dating.proofs.anchor.Laws.{lacks-space, three-bytes}
 use Rattle.dating.proofs.line.Laws.{TellsEnding, no-ending, ending-of, its-phrase, one-answer}
 use Rattle.calendar.specs.Range.{between}
 use Rattle.words.specs.Text.{space, has, BehindLast}
@@ -174,7 +174,8 @@ some-bytes s n p (unfit h m) part = no-day Length n (sym m)
 some-bytes s n p (fit h (unproduced none m)) part = no-day Form n (sym m)
 some-bytes s n p (fit h (produced l g e m)) part =
     let same : p ≡ anchorPart (l .phrase) = one-answer p (anchorPart (l .phrase)) part (fit h (produced l g e (rw (← m)))) in
-    rw same (anchor-some (anchorOf (l .phrase)) (anchor-good (l .phrase) (g .phrase)))
+    let some = three-bytes (anchorOf (l .phrase)) (anchor-good (l .phrase) (g .phrase)) in
+    rw same (omega arith)
 
 -- two parts that the contract allows are one: the same bytes at the same place
 pub one-part : (x r q : RefT (List ℕ)) → PartOf x r → PartOf x q → (now r ≡ now q) × (ptr r ≡ ptr q)

@@ -55,6 +55,10 @@ sets-last (x ∷ w) s i c =
     let other : (suc i + length w ≡ i) → ⊥ = λ h. omega arith in
     rw (e, set-comm s (suc i + length w) i c x other) (sets-last w (set s i x) (suc i) c)
 
+-- bytes put at the start stand before the rest
+pub sets-start : (w s : List ℕ) → length w ≤ length s → sets s 0 w ≡ w ++ drop (length w) s
+sets-start w s h = let e : 0 + length w ≡ length w = omega arith in sets-eq w s 0 (omega arith) ∙ rw e
+
 -- ---- a numeral, put from its last digit on
 module _ (s : List ℕ) (at n : ℕ) where
   pub last-digit : 10 ≤ n → n ≤ 18446744073709551616 → sets (set s (at + length (numeral n) - 1) (digit (n % 10))) at (numeral (n / 10)) ≡ sets s at (numeral n)
@@ -146,10 +150,9 @@ module _ (s : Style) (n : ℕ) (before : List ℕ) where
     written after r i h =
         let w = h .0 in
         let few = text-length s n w (h .1 .0) in
-        let e : 0 + length w ≡ length w = omega arith in
         rw (le-leb 12 (length before) room, i) (
           w,
-          (h .1 .0, (ap Bytes (omega (arith, h .1 .1 .behind)), h .1 .1 .bytes ∙ sets-eq w before 0 (omega arith) ∙ rw e)),
+          (h .1 .0, (ap Bytes (omega (arith, h .1 .1 .behind)), h .1 .1 .bytes ∙ sets-start w before (omega arith))),
         )
 
 -- ---- one text for each day, which reads back as the day
@@ -163,6 +166,7 @@ one-text s n v w p q = p .text ∙ ap text (one-answer s n (on p) (on q) (p .is-
   where
     on : {w : List ℕ} → IsDateText s n w → DateAnswer
     on t = On (t .year) (t .month) (t .day)
+
     text : DateAnswer → List ℕ
     text (On y m d) = dateText (named s y) m d
     text (NoDate x) = []

@@ -1,0 +1,2 @@
+-- Claims is what a run promises beyond the contracts of its calls; the rest are steps to it.
+pub mod Claims

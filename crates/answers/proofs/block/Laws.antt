@@ -1,0 +1,394 @@
+-- Lines byte by byte, and what is kept of one that is still open.
+use mathlib.Core.Bool.{Bool, true, false, _||_, cond}
+use mathlib.Core.List.{List, [], _∷_, _++_, append-nil, append-assoc}
+use mathlib.Core.Logic.{_⊎_, inl, inr}
+use mathlib.Core.Path.{_≡_, refl, sym, _∙_, ap, ap₂}
+use Prim.Native.Nat.{min, ℕ, _+_, _*_, _-_, _≤_, zero, suc, _<_}
+use native.Mathlib.Decide.{decLt}
+use native.Mathlib.Numerals.{add-one}
+use native.Mathlib.Omega.{arith}
+use lib.Dec.{eqb}
+use lib.ListN.{set, drop, getD, length-drop, length, take, length-append}
+use lib.Seq.{take-add, drop-at, drop-cons, set-append-seam, append-snoc, getD-append-add, take-length, sets, length-sets, take-suc, getD-drop, length-take-le, take-all, take-append-le, take-take}
+use borrow.Author.Tests.{eq-eqb, ne-eqb, le-leb}
+use Rattle.words.proofs.text.Laws.{rest, no-false, has-append}
+use Rattle.dating.proofs.Claims.{one-text}
+use Rattle.dating.proofs.answer.Laws.{answer-length, overlong}
+use Rattle.dating.proofs.writer.Laws.{sets-both, sets-start}
+use Rattle.words.specs.Text.{has}
+use Rattle.dating.specs.Answer.{PutsAnswer, IsAnswer, lineFeed}
+use Rattle.answers.specs.Block.{joined, Run, AnswersBlock, AnswersLast, over, kept}
+use Rattle.answers.specs.Lines.{lastLine, endedLines, openLine, Answers}
+use Rattle.answers.specs.Steps.{AnswersEnded}
+use Rattle.answers.specs.declared.block.Ended.{Ended}
+use Rattle.answers.specs.declared.block.Progress.{Progress}
+
+-- ---- lines of bytes one behind the other
+neither : (a : Bool) {b : Bool} → (a || b) ≡ false → (a ≡ false) × (b ≡ false)
+neither true h = no-false h
+neither false h = (refl, h)
+
+one-lacks : (c x : ℕ) → eqb x c ≡ false → has c (x ∷ []) ≡ false
+unfolding has
+one-lacks c x e = rw e
+
+pub ended-append : (p s t : List ℕ) → endedLines p (s ++ t) ≡ endedLines p s ++ endedLines (openLine p s) t
+unfolding endedLines openLine
+ended-append p [] t = refl
+ended-append p (c ∷ s) t = go (eqb c lineFeed) (ended-append [] s t) (ended-append (p ++ c ∷ []) s t)
+  where
+    go : (b : Bool) → endedLines [] (s ++ t) ≡ endedLines [] s ++ endedLines (openLine [] s) t
+        → endedLines (p ++ c ∷ []) (s ++ t) ≡ endedLines (p ++ c ∷ []) s ++ endedLines (openLine (p ++ c ∷ []) s) t
+        → cond b (p ∷ endedLines [] (s ++ t)) (endedLines (p ++ c ∷ []) (s ++ t))
+        ≡ cond b (p ∷ endedLines [] s) (endedLines (p ++ c ∷ []) s) ++ endedLines (cond b (openLine [] s) (openLine (p ++ c ∷ []) s)) t
+    go true e f = ap (λ (ls : List (List ℕ)). p ∷ ls) e
+    go false e f = f
+
+pub open-append : (p s t : List ℕ) → openLine p (s ++ t) ≡ openLine (openLine p s) t
+unfolding openLine
+open-append p [] t = refl
+open-append p (c ∷ s) t = go (eqb c lineFeed) (open-append [] s t) (open-append (p ++ c ∷ []) s t)
+  where
+    go : (b : Bool) → openLine [] (s ++ t) ≡ openLine (openLine [] s) t → openLine (p ++ c ∷ []) (s ++ t) ≡ openLine (openLine (p ++ c ∷ []) s) t
+        → cond b (openLine [] (s ++ t)) (openLine (p ++ c ∷ []) (s ++ t)) ≡ openLine (cond b (openLine [] s) (openLine (p ++ c ∷ []) s)) t
+    go true e f = e
+    go false e f = f
+
+-- bytes without a line feed are the open line
+pub open-whole : (p s : List ℕ) → has lineFeed s ≡ false → (endedLines p s ≡ []) × (openLine p s ≡ p ++ s)
+unfolding endedLines openLine has
+open-whole p [] h = (refl, sym (append-nil p))
+open-whole p (c ∷ s) h =
+    let no = neither (eqb c lineFeed) h in
+    let rest = open-whole (p ++ c ∷ []) s (no .1) in
+    rw (no .0) (rest .0, rest .1 ∙ append-assoc p (c ∷ []) s)
+
+pub open-lacks : (p s : List ℕ) → has lineFeed p ≡ false → has lineFeed (openLine p s) ≡ false
+unfolding openLine has
+open-lacks p [] h = h
+open-lacks p (c ∷ s) h = go (eqb c lineFeed) refl (open-lacks [] s refl) (λ k. open-lacks (p ++ c ∷ []) s k)
+  where
+    go : (b : Bool) → eqb c lineFeed ≡ b → has lineFeed (openLine [] s) ≡ false → (has lineFeed (p ++ c ∷ []) ≡ false → has lineFeed (openLine (p ++ c ∷ []) s) ≡ false)
+        → has lineFeed (cond b (openLine [] s) (openLine (p ++ c ∷ []) s)) ≡ false
+    go true e f g = f
+    go false e f g = g (has-append lineFeed p (c ∷ []) h (one-lacks lineFeed c e))
+
+-- ---- answers one behind the other
+pub answers-append : (ls ms : List (List ℕ)) (t u : List ℕ) → Answers ls t → Answers ms u → Answers (ls ++ ms) (t ++ u)
+answers-append [] ms t u h k = rw h k
+answers-append (l ∷ ls) ms t u h k =
+    let v = h .1 .0 in
+    (h .0, (v ++ u, (h .1 .1 .0, (answers-append ls ms v u (h .1 .1 .1 .0) k, ap (λ (x : List ℕ). x ++ u) (h .1 .1 .1 .1) ∙ append-assoc (h .0) v u))))
+
+pub one-output : (ls : List (List ℕ)) (t u : List ℕ) → Answers ls t → Answers ls u → t ≡ u
+one-output [] t u h k = h ∙ sym k
+one-output (l ∷ ls) t u h k =
+    h .1 .1 .1 .1
+    ∙ ap₂ (λ (x y : List ℕ). x ++ y) (one-text l (h .0) (k .0) (h .1 .1 .0) (k .1 .1 .0)) (one-output ls (h .1 .0) (k .1 .0) (h .1 .1 .1 .0) (k .1 .1 .1 .0))
+    ∙ sym (k .1 .1 .1 .1)
+
+-- ---- what is kept of a line
+-- two lines are alike where they are one, or both too long
+Alike : List ℕ → List ℕ → Type 0
+Alike p q = (p ≡ q) ⊎ ((120 < length p) × (120 < length q))
+
+kept-alike : (p : List ℕ) → Alike (kept p) p
+unfolding Alike
+kept-alike p =
+    elim (decLt 120 (length p)) [
+      | yes long ↦ let l = length-take-le 121 p long in inr (omega arith, long)
+      | no short ↦ inl (take-all 121 p (omega arith))
+    ]
+
+alike-on : (p q : List ℕ) (c : ℕ) → Alike p q → Alike (p ++ c ∷ []) (q ++ c ∷ [])
+unfolding Alike
+alike-on p q c (inl e) = inl (ap (λ (x : List ℕ). x ++ c ∷ []) e)
+alike-on p q c (inr h) = inr (
+  let l = length-append p (c ∷ []) in omega (arith, h),
+  let l = length-append q (c ∷ []) in omega (arith, h),
+)
+
+alike-answer : (p q a : List ℕ) → Alike p q → IsAnswer p a → IsAnswer q a
+unfolding Alike
+alike-answer p q a (inl e) h = rw e at h
+alike-answer p q a (inr k) h = overlong p q a (k .0) (k .1) h
+
+alike-answers : (p q s t : List ℕ) → Alike p q → Answers (endedLines p s) t → Answers (endedLines q s) t
+unfolding endedLines
+alike-answers p q [] t k h = h
+alike-answers p q (c ∷ s) t k h = go (eqb c lineFeed) h (λ h. alike-answers (p ++ c ∷ []) (q ++ c ∷ []) s t (alike-on p q c k) h)
+  where
+    go : (b : Bool) → Answers (cond b (p ∷ endedLines [] s) (endedLines (p ++ c ∷ []) s)) t
+        → (Answers (endedLines (p ++ c ∷ []) s) t → Answers (endedLines (q ++ c ∷ []) s) t)
+        → Answers (cond b (q ∷ endedLines [] s) (endedLines (q ++ c ∷ []) s)) t
+    go true h f = (h .0, (h .1 .0, (alike-answer p q (h .0) k (h .1 .1 .0), h .1 .1 .1)))
+    go false h f = f h
+
+kept-last : (p t : List ℕ) → Answers (lastLine (kept p)) t → Answers (lastLine p) t
+kept-last [] t h = h
+kept-last (c ∷ s) t h = (h .0, (h .1 .0, (alike-answer (kept (c ∷ s)) (c ∷ s) (h .0) (kept-alike (c ∷ s)) (h .1 .1 .0), h .1 .1 .1)))
+
+kept-on : (p : List ℕ) (c : ℕ) → kept (kept p ++ c ∷ []) ≡ kept (p ++ c ∷ [])
+kept-on p c =
+    elim (decLt 120 (length p)) [
+      | yes long ↦
+          let l = length-take-le 121 p long in
+          take-append-le 121 (kept p) (c ∷ []) (omega arith) ∙ take-take 121 121 p (omega arith) ∙ sym (take-append-le 121 p (c ∷ []) (omega arith))
+      | no short ↦ rw (take-all 121 p (omega arith))
+    ]
+
+kept-open : (p s : List ℕ) → kept (openLine (kept p) s) ≡ kept (openLine p s)
+unfolding openLine
+kept-open p [] = take-take 121 121 p (omega arith)
+kept-open p (c ∷ s) = go (eqb c lineFeed) (sym (kept-open (kept p ++ c ∷ []) s) ∙ ap (λ (x : List ℕ). kept (openLine x s)) (kept-on p c) ∙ kept-open (p ++ c ∷ []) s)
+  where
+    go : (b : Bool) → kept (openLine (kept p ++ c ∷ []) s) ≡ kept (openLine (p ++ c ∷ []) s)
+        → kept (cond b (openLine [] s) (openLine (kept p ++ c ∷ []) s)) ≡ kept (cond b (openLine [] s) (openLine (p ++ c ∷ []) s))
+    go true e = refl
+    go false e = e
+
+kept-lacks : (c n : ℕ) (s : List ℕ) → has c s ≡ false → has c (take n s) ≡ false
+unfolding has
+kept-lacks c zero s h = refl
+kept-lacks c (suc n) [] h = refl
+kept-lacks c (suc n) (x ∷ s) h = let no = neither (eqb x c) h in rw (no .0) (kept-lacks c n s (no .1))
+
+-- ---- block by block
+-- the open line o needs no more than what is kept of it
+pub run-on : (o : List ℕ) (bs : List (List ℕ)) (t : List ℕ) → has lineFeed o ≡ false → Run (kept o) bs t
+    → Answers (endedLines o (joined bs) ++ lastLine (openLine o (joined bs))) t
+unfolding endedLines openLine
+run-on o [] t lacks h = kept-last o t h
+run-on o (b ∷ bs) t lacks (a, (u, (first, (rest, e)))) =
+    let whole = open-whole [] (kept o) (kept-lacks lineFeed 121 o lacks) in
+    let lines : endedLines [] (kept o ++ b) ≡ endedLines (kept o) b = ended-append [] (kept o) b ∙ rw (whole .0, whole .1) in
+    let opens : openLine [] (kept o ++ b) ≡ openLine (kept o) b = open-append [] (kept o) b ∙ rw (whole .1) in
+    let next : Run (kept (openLine o b)) bs u = rw (opens, kept-open o b) at rest in
+    let here = alike-answers (kept o) o b a (kept-alike o) (rw lines at first) in
+    let there = run-on (openLine o b) bs u (open-lacks o b lacks) next in
+    rw (e, ended-append o b (joined bs), open-append o b (joined bs), append-assoc (endedLines o b) (endedLines (openLine o b) (joined bs)) (lastLine (openLine (openLine o b) (joined bs))))
+    (answers-append (endedLines o b) (endedLines (openLine o b) (joined bs) ++ lastLine (openLine (openLine o b) (joined bs))) a u here there)
+
+-- ---- one more byte
+ended-byte : (p : List ℕ) (c : ℕ) (b : Bool) → eqb c lineFeed ≡ b → (endedLines p (c ∷ []) ≡ cond b (p ∷ []) []) × (openLine p (c ∷ []) ≡ cond b [] (p ++ c ∷ []))
+unfolding endedLines openLine
+ended-byte p c true e = rw e (refl, refl)
+ended-byte p c false e = rw e (refl, refl)
+
+-- the lines that end in the first i bytes of s are answered, and the open line begins at start
+pub record Sofar (s before : List ℕ) (written start i : ℕ) (after : List ℕ) : Type 0 where
+  pub text : List ℕ
+  pub answers : Answers (endedLines [] (take i s)) text
+  pub count : written ≡ length text
+  pub output : after ≡ sets before 0 text
+  pub begun : start ≤ i
+  pub inside : i ≤ length s
+  pub small : written ≤ 4 * start
+  pub left : take (i - start) (drop start s) ≡ openLine [] (take i s)
+
+pub at-first : (s before : List ℕ) → Sofar s before 0 0 0 before
+unfolding endedLines openLine
+at-first s before =
+    record { text = []; answers = refl; count = refl; output = refl; begun = omega arith; inside = omega arith; small = omega arith; left = refl }
+
+module _ (s before : List ℕ) (written start i : ℕ) (after : List ℕ) (p : Sofar s before written start i after) where
+  pub sofar-length : length after ≡ length before
+  sofar-length = ap length (p .output) ∙ length-sets before 0 (p .text)
+
+  module _ (more : i < length s) where
+    pub has-room : 4 * length s + 25 ≤ length before → written + 25 ≤ length after
+    has-room room = let same = sofar-length in let small = p .small in let begun = p .begun in omega arith
+
+    abbrev byte : ℕ
+    byte = getD s i 0
+
+    one-more : take (i + 1) s ≡ take i s ++ byte ∷ []
+    one-more = rw add-one (take-suc s i 0 more)
+
+    -- the open line with one more byte
+    longer : take (i + 1 - start) (drop start s) ≡ openLine [] (take i s) ++ byte ∷ []
+    longer =
+        let begun = p .begun in
+        let k : i + 1 - start ≡ suc (i - start) = omega arith in
+        let at : start + (i - start) ≡ i = omega arith in
+        let size = length-drop start s in
+        rw (k, take-suc (drop start s) (i - start) 0 (omega arith), getD-drop start s (i - start) 0, at, p .left)
+
+    pub another-byte : (byte ≡ lineFeed → ⊥) → Sofar s before written start (i + 1) after
+    another-byte other =
+        let none = ended-byte (openLine [] (take i s)) byte false (ne-eqb byte lineFeed other) in
+        let begun = p .begun in
+        record {
+          text = p .text;
+          answers = rw (one-more, ended-append [] (take i s) (byte ∷ []), none .0, append-nil (endedLines [] (take i s))) (p .answers);
+          count = p .count;
+          output = p .output;
+          begun = omega arith;
+          inside = omega arith;
+          small = p .small;
+          left = longer ∙ rw (one-more, open-append [] (take i s) (byte ∷ []), none .1);
+        }
+
+    pub line-end : (now : List ℕ) (r : ℕ) → byte ≡ lineFeed → written + 25 ≤ length after → PutsAnswer (take (i - start) (drop start s)) written after now r
+        → Sofar s before (written + r) (i + 1) (i + 1) now
+    line-end now r ends room h = go (rw (le-leb (written + 25) (length after) room) at h)
+      where
+        line : List ℕ
+        line = take (i - start) (drop start s)
+
+        go : (t : List ℕ) × (IsAnswer line t × ((r ≡ length t) × (now ≡ sets after written t))) → Sofar s before (written + r) (i + 1) (i + 1) now
+        go (t, (told, (count, bytes))) =
+            let line-open = openLine [] (take i s) in
+            let ended = ended-byte line-open byte true (eq-eqb byte lineFeed ends) in
+            let begun = p .begun in
+            let small = p .small in
+            let total = length-append (p .text) t in
+            let size = length-drop start s in
+            let its-length = length-take-le (i - start) (drop start s) (omega arith) in
+            let few = answer-length line t told .1 in
+            let k : i + 1 - (i + 1) ≡ 0 = omega arith in
+            let first : 0 + length (p .text) ≡ written = omega (arith, p .count) in
+            let one : Answers (line-open ∷ []) t = (t, ([], (rw (p .left) at told, (refl, sym (append-nil t))))) in
+            record {
+              text = p .text ++ t;
+              answers = rw (one-more, ended-append [] (take i s) (byte ∷ []), ended .0) (answers-append (endedLines [] (take i s)) (line-open ∷ []) (p .text) t (p .answers) one);
+              count = omega (arith, p .count);
+              output = bytes ∙ rw (p .output, ← first) (sets-both (p .text) t before 0);
+              begun = omega arith;
+              inside = omega arith;
+              small = omega arith;
+              left = rw (k, one-more, open-append [] (take i s) (byte ∷ []), ended .1);
+            }
+
+pub all-ended : (s before : List ℕ) (written start i : ℕ) (after : List ℕ) → Sofar s before written start i after → length s ≤ i → 4 * length s + 25 ≤ length before
+    → AnswersEnded s before after (record { written = written; start = start })
+all-ended s before written start i after p end room =
+    let begun = p .begun in
+    let inside = p .inside in
+    let small = p .small in
+    let count = p .count in
+    let whole = take-all i s end in
+    let k : i - start ≡ length s - start = omega arith in
+    record {
+      text = p .text;
+      answers = rw whole at (p .answers);
+      written = p .count;
+      output = p .output ∙ sets-start (p .text) before (omega arith);
+      inside = omega arith;
+      left = sym (rest start s) ∙ rw (k, whole) at (p .left);
+    }
+
+-- ---- bytes moved to the start
+over-byte : (w s : List ℕ) (i x : ℕ) → length w ≡ i → i < length s → set (over w s) i x ≡ over (w ++ x ∷ []) s
+over-byte w s i x e h =
+    let more = length-append w (x ∷ []) in
+    let k : length (w ++ x ∷ []) ≡ suc (length w) = omega arith in
+    rw (← e, drop-cons s (length w) 0 (omega arith), k)
+    (set-append-seam w (getD s (length w) 0) (drop (suc (length w)) s) x ∙ sym (append-snoc w x (drop (suc (length w)) s)))
+
+module _ (s : List ℕ) (from i : ℕ) (inside : from + i < length s) where
+  abbrev sofar : List ℕ
+  sofar = take i (drop from s)
+
+  size : length sofar ≡ i
+  size = let l = length-drop from s in length-take-le i (drop from s) (omega arith)
+
+  -- what is read has not been written to
+  still : getD (over sofar s) (from + i) 0 ≡ getD s (from + i) 0
+  still =
+      let k : from + i ≡ length sofar + from = omega (arith, size) in
+      let j : length sofar + from ≡ from + i = omega (arith, size) in
+      rw k (getD-append-add sofar (drop (length sofar) s) from 0) ∙ getD-drop (length sofar) s from 0 ∙ rw j
+
+  pub moved : set (over sofar s) i (getD (over sofar s) (from + i) 0) ≡ over (take (i + 1) (drop from s)) s
+  moved =
+      let l = length-drop from s in
+      let next = take-suc (drop from s) i 0 (omega arith) in
+      rw (still, add-one, next, getD-drop from s i 0) (over-byte sofar s i (getD s (from + i) 0) size (omega arith))
+
+pub over-length : (w s : List ℕ) → length w ≤ length s → length (over w s) ≡ length s
+over-length w s h = let a = length-append w (drop (length w) s) in let b = length-drop (length w) s in omega arith
+
+-- ---- the bytes that a buffer is filled with
+pub filled-part : (n : ℕ) (s : List ℕ) → take (min n (length s)) s ≡ take n s
+filled-part n s =
+    elim (decLt n (length s)) [
+      | yes h ↦ let e : min n (length s) ≡ n = omega arith in rw e
+      | no h ↦ let e : min n (length s) ≡ length s = omega arith in rw e (take-length s) ∙ sym (take-all n s (omega arith))
+    ]
+
+last-some : (s : List ℕ) → 1 ≤ length s → lastLine s ≡ s ∷ []
+last-some [] h = absurd (omega arith)
+last-some (c ∷ s) h = refl
+
+module _ (n e : ℕ) (b : List ℕ) (part : e ≡ min n (length b)) where
+  front : take e b ≡ take n b
+  front = rw part (filled-part n b)
+
+  pub front-length : length (take e b) ≡ e
+  front-length = length-take-le e b (omega arith)
+
+  -- what is kept of the open line, moved to the start
+  kept-part : (start k : ℕ) → start ≤ e → k ≡ min (e - start) 121 → take k (drop start b) ≡ kept (drop start (take e b))
+  kept-part start k h few =
+      let l = length-take-le start b (omega arith) in
+      let j : start + (e - start) ≡ e = omega arith in
+      let rest-part = take (e - start) (drop start b) in
+      let cut : drop start (take e b) ≡ rest-part = ap (drop start) (rw j at (take-add start (e - start) b)) ∙ drop-at (take start b) rest-part start l in
+      elim (decLt 121 (e - start)) [
+        | yes more ↦ let m : k ≡ 121 = omega arith in rw (cut, m) (sym (take-take 121 (e - start) (drop start b) (omega arith)))
+        | no less ↦
+            let m : k ≡ e - start = omega arith in
+            let all = length-drop start b in
+            let count = length-take-le (e - start) (drop start b) (omega arith) in
+            rw (cut, m) (sym (take-all 121 (take (e - start) (drop start b)) (omega arith)))
+      ]
+
+  pub block-answered : {o p m : List ℕ} {r : Ended} (k : ℕ) → AnswersEnded (take e b) o p r → k ≡ min (e - r .start) 121 → m ≡ over (take k (drop (r .start) b)) b
+      → AnswersBlock (take n b) b m o p (record { written = r .written; kept = k })
+  block-answered {r = r} k h least moves =
+      let fits = front-length in
+      let inside : r .start ≤ e = omega (arith, h .inside) in
+      let keeps = kept-part (r .start) k inside least ∙ ap kept (h .left) in
+      let all = length-drop (r .start) b in
+      let count = length-take-le k (drop (r .start) b) (omega arith) in
+      rw (← front) (record {
+        text = h .text;
+        answers = h .answers;
+        written = h .written;
+        output = h .output;
+        keeps = sym count ∙ ap length keeps;
+        buffer = moves ∙ ap (λ (w : List ℕ). over w b) keeps;
+      })
+
+  pub no-line : (o : List ℕ) → e ≡ 0 → AnswersLast (take n b) o o 0
+  no-line o z = rw (← front, z) (record { text = []; answers = refl; written = refl; output = refl })
+
+  pub last-answered : (o p : List ℕ) (r : ℕ) → (e ≡ 0 → ⊥) → 25 ≤ length o → PutsAnswer (take e b) 0 o p r → AnswersLast (take n b) o p r
+  last-answered o p r some room h = go (rw (le-leb 25 (length o) room) at h)
+    where
+      go : (t : List ℕ) × (IsAnswer (take e b) t × ((r ≡ length t) × (p ≡ sets o 0 t))) → AnswersLast (take n b) o p r
+      go (t, (told, (count, bytes))) =
+          let long = front-length in
+          let few = answer-length (take e b) t told .0 in
+          rw (← front) (record {
+            text = t;
+            answers = rw (last-some (take e b) (omega arith)) (t, ([], (told, (refl, sym (append-nil t)))));
+            written = count;
+            output = bytes ∙ sets-start t o (omega arith);
+          })
+
+-- ---- one result for each call
+pub one-block : (s b m n o p q : List ℕ) (r u : Progress) → AnswersBlock s b m o p r → AnswersBlock s b n o q u → (r ≡ u) × ((m ≡ n) × (p ≡ q))
+one-block s b m n o p q r u h k =
+    let text = one-output (endedLines [] s) (h .text) (k .text) (h .answers) (k .answers) in
+    let written = h .written ∙ ap length text ∙ sym (k .written) in
+    let keeps = h .keeps ∙ sym (k .keeps) in (
+      λ i. record { written = written i; kept = keeps i },
+      (h .buffer ∙ sym (k .buffer), h .output ∙ ap (λ (t : List ℕ). over t o) text ∙ sym (k .output)),
+    )
+
+pub one-last : (s o p q : List ℕ) (r u : ℕ) → AnswersLast s o p r → AnswersLast s o q u → (r ≡ u) × (p ≡ q)
+one-last s o p q r u h k =
+    let text = one-output (lastLine s) (h .text) (k .text) (h .answers) (k .answers) in
+    (h .written ∙ ap length text ∙ sym (k .written), h .output ∙ ap (λ (t : List ℕ). over t o) text ∙ sym (k .output))

@@ -1,0 +1,78 @@
+use mathlib.Core.Logic.{⊎-elim}
+use Prim.Native.Nat.{_-_}
+use native.Mathlib.Omega.{arith}
+use lib.ListN.{length}
+use borrow.Author.Needs.{needs}
+use Rattle.answers.proofs.block.Laws.{Sofar, at-first, sofar-length, has-room, another-byte, line-end, all-ended}
+use Rattle.answers.proofs.block.answer_ended.Statement.{statement}
+use Rattle.answers.proofs.block.answer_ended.Tie as tie
+
+abbrev Inv-loop : tie.InvT-loop
+Inv-loop input output₀ written₀ start₀ i₀ output written start i = Sofar input output₀ written start i output
+
+abbrev μ-loop : tie.MeasureT-loop
+μ-loop input output₀ written₀ start₀ i₀ output written start i = length input - i
+
+loop-holds : tie.Need-loop-holds Inv-loop μ-loop
+loop-holds c = at-first (c .before .before .args .input .now) (c .before .before .args .output .now)
+
+shared-slice-read-if1 : tie.Need-shared-slice-read-if1 Inv-loop μ-loop
+shared-slice-read-if1 c = c .before .loop-test .taken
+
+sub-put-answer : tie.Need-sub-put-answer Inv-loop μ-loop
+sub-put-answer c = c .before .before .before .loop .inv .begun
+
+part-put-answer-start : tie.Need-part-put-answer-start Inv-loop μ-loop
+part-put-answer-start c = search (needs, c .before .before .before .loop .inv)
+
+part-put-answer-end : tie.Need-part-put-answer-end Inv-loop μ-loop
+part-put-answer-end c = search (needs, c .before .before .before .loop .inv)
+
+add-written : tie.Need-add-written Inv-loop μ-loop
+add-written c =
+    let next = line-end (c .before .before .before .before .before .before .before .before .before .before .before .args .input .now) (c .before .before .before .before .before .before .before .before .before .before .before .args .output .now) (c .before .before .before .before .before .before .before .before .loop .written) (c .before .before .before .before .before .before .before .before .loop .start) (c .before .before .before .before .before .before .before .before .loop .i) (c .before .before .before .before .before .before .before .before .loop .output) (c .before .before .before .before .before .before .before .before .loop .inv) (c .before .before .before .before .before .before .before .loop-test .taken) _ _ (c .before .before .before .before .before .if1 .taken) (has-room (c .before .before .before .before .before .before .before .before .before .before .before .args .input .now) (c .before .before .before .before .before .before .before .before .before .before .before .args .output .now) (c .before .before .before .before .before .before .before .before .loop .written) (c .before .before .before .before .before .before .before .before .loop .start) (c .before .before .before .before .before .before .before .before .loop .i) (c .before .before .before .before .before .before .before .before .loop .output) (c .before .before .before .before .before .before .before .before .loop .inv) (c .before .before .before .before .before .before .before .loop-test .taken) ((c .before .before .before .before .before .before .before .before .before .before .before .pre))) (c .before .before .put-answer .ensures) in
+    omega (arith, next .small, c .before .before .before .before .before .before .before .loop-test .taken, (c .before .before .before .before .before .before .before .before .before .before .before .pre))
+
+add-start : tie.Need-add-start Inv-loop μ-loop
+add-start c = omega (arith, c .before .before .before .before .before .before .before .loop-test .taken)
+
+add-i : tie.Need-add-i Inv-loop μ-loop
+add-i c = omega (arith, c .before .before .loop-test .taken)
+
+loop-less : tie.Need-loop-less Inv-loop μ-loop
+loop-less c = omega (arith, c .before .before .loop-test .taken)
+
+loop-again : tie.Need-loop-again Inv-loop μ-loop
+loop-again c =
+    ⊎-elim
+    (λ w. rw (w .6, w .7, w .8) (line-end (c .before .before .before .before .before .before .args .input .now) (c .before .before .before .before .before .before .args .output .now) (c .before .before .before .loop .written) (c .before .before .before .loop .start) (c .before .before .before .loop .i) (c .before .before .before .loop .output) (c .before .before .before .loop .inv) (c .before .before .loop-test .taken) _ _ (w .0 .taken) (has-room (c .before .before .before .before .before .before .args .input .now) (c .before .before .before .before .before .before .args .output .now) (c .before .before .before .loop .written) (c .before .before .before .loop .start) (c .before .before .before .loop .i) (c .before .before .before .loop .output) (c .before .before .before .loop .inv) (c .before .before .loop-test .taken) ((c .before .before .before .before .before .before .pre))) (w .3 .ensures)))
+    (λ w. rw (w .1, w .2, w .3) (another-byte (c .before .before .before .before .before .before .args .input .now) (c .before .before .before .before .before .before .args .output .now) (c .before .before .before .loop .written) (c .before .before .before .loop .start) (c .before .before .before .loop .i) (c .before .before .before .loop .output) (c .before .before .before .loop .inv) (c .before .before .loop-test .taken) (w .0 .left)))
+    (c .if1 .came)
+
+same-length : tie.Need-same-length Inv-loop μ-loop
+same-length c =
+    sofar-length (c .before .before .before .before .args .input .now) (c .before .before .before .before .args .output .now) (c .before .loop .written) (c .before .loop .start) (c .before .loop .i) (c .before .loop .output) (c .before .loop .inv)
+
+returns : tie.Need-returns Inv-loop μ-loop
+returns c =
+    all-ended (c .before .before .before .before .args .input .now) (c .before .before .before .before .args .output .now) (c .before .loop .written) (c .before .loop .start) (c .before .loop .i) (c .before .loop .output) (c .before .loop .inv) (c .loop-test .left) ((c .before .before .before .before .pre))
+
+pub answer-ended-spec : {M : Type 1} → statement M
+answer-ended-spec =
+    tie.close
+    (tie.spec
+    Inv-loop
+    μ-loop
+    loop-holds
+    shared-slice-read-if1
+    sub-put-answer
+    part-put-answer-start
+    part-put-answer-end
+    (λ c κs. search needs)
+    add-written
+    add-start
+    add-i
+    loop-less
+    loop-again
+    same-length
+    returns)

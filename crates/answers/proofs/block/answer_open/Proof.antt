@@ -1,0 +1,28 @@
+use mathlib.Core.Path.{sym}
+use borrow.Author.Needs.{needs}
+use Rattle.answers.proofs.block.Laws.{front-length, no-line, last-answered}
+use Rattle.answers.proofs.block.answer_open.Statement.{statement}
+use Rattle.answers.proofs.block.answer_open.Tie as tie
+
+returns : tie.Need-returns
+returns c =
+    no-line (c .before .before .before .before .args .filled) (c .before .least .result) (c .before .before .before .before .args .buffer .now) (c .before .least .ensures) (c .before .before .before .before .args .output .now) (c .if1 .taken)
+
+slice-aggregate-put-answer : tie.Need-slice-aggregate-put-answer
+slice-aggregate-put-answer c =
+    sym (front-length (c .before .before .before .before .before .args .filled) (c .before .before .least .result) (c .before .before .before .before .before .args .buffer .now) (c .before .before .least .ensures))
+
+returns-2 : tie.Need-returns-2
+returns-2 c =
+    last-answered (c .before .before .before .before .before .before .before .before .before .args .filled) (c .before .before .before .before .before .before .least .result) (c .before .before .before .before .before .before .before .before .before .args .buffer .now) (c .before .before .before .before .before .before .least .ensures) (c .before .before .before .before .before .before .before .before .before .args .output .now) _ _ (c .before .before .before .before .before .if1 .left) ((c .before .before .before .before .before .before .before .before .before .pre)) (c .before .before .put-answer .ensures)
+
+pub answer-open-spec : {M : Type 1} → statement M
+answer-open-spec =
+    tie.close
+    (tie.spec
+    (λ c κs. search needs)
+    returns
+    slice-aggregate-put-answer
+    (λ c κs. search needs)
+    (λ c. search needs)
+    returns-2)

@@ -1,0 +1,42 @@
+-- An input that comes in blocks.
+use mathlib.Core.List.{List, [], _∷_, _++_}
+use mathlib.Core.Path.{_≡_}
+use Prim.Native.Nat.{ℕ}
+use lib.ListN.{length, take, drop}
+use Rattle.answers.specs.Lines.{endedLines, openLine, lastLine, Answers}
+use Rattle.answers.specs.declared.block.Progress.{Progress}
+
+-- what is kept of a line that is still open: enough to tell that it "has .. more than 120 bytes"
+abbrev pub kept : List ℕ → List ℕ
+kept s = take 121 s
+
+-- the bytes w at a buffer's start, the later ones as they were
+abbrev pub over : List ℕ → List ℕ → List ℕ
+over w s = w ++ drop (length w) s
+
+-- the lines that end in the bytes s at a buffer's start are answered, and what is kept of the open line stands at its start
+pub record AnswersBlock (s : List ℕ) (buffer-before buffer-after output-before output-after : List ℕ) (r : Progress) : Type 0 where
+  pub text : List ℕ
+  pub answers : Answers (endedLines [] s) text
+  pub written : r .written ≡ length text
+  pub output : output-after ≡ over text output-before
+  pub keeps : r .kept ≡ length (kept (openLine [] s))
+  pub buffer : buffer-after ≡ over (kept (openLine [] s)) buffer-before
+
+-- the line s that no line feed ended, if there is one, is answered, and r bytes are written
+pub record AnswersLast (s output-before output-after : List ℕ) (r : ℕ) : Type 0 where
+  pub text : List ℕ
+  pub answers : Answers (lastLine s) text
+  pub written : r ≡ length text
+  pub output : output-after ≡ over text output-before
+
+-- the bytes of all blocks, one behind the other
+abbrev pub joined : List (List ℕ) → List ℕ
+joined [] = []
+joined (b ∷ bs) = b ++ joined bs
+
+-- the program writes t for the blocks that it reads, where the bytes k of an open line are kept: for each block the answers to the lines that end in what is kept and the block, and at the end of the input the last line's
+abbrev pub Run : List ℕ → List (List ℕ) → List ℕ → Type 0
+Run k [] t = Answers (lastLine k) t
+Run k (b ∷ bs) t =
+    (a : List ℕ) × ((u : List ℕ) × (Answers (endedLines [] (k ++ b)) a × (Run (kept (openLine [] (k ++ b))) bs u × (t ≡ a ++ u))))

@@ -1,0 +1,35 @@
+-- The lines of an input, and the output that answers them.
+use mathlib.Core.Bool.{cond}
+use mathlib.Core.List.{List, [], _∷_, _++_}
+use mathlib.Core.Path.{_≡_}
+use Prim.Native.Nat.{ℕ}
+use lib.Dec.{eqb}
+use Rattle.dating.specs.Answer.{lineFeed, IsAnswer}
+
+-- the lines that a line feed ends in the bytes s, where the bytes p of the first stand before them
+unfoldable pub endedLines : List ℕ → List ℕ → List (List ℕ)
+endedLines p [] = []
+endedLines p (c ∷ s) = cond (eqb c lineFeed) (p ∷ endedLines [] s) (endedLines (p ++ c ∷ []) s)
+
+-- the bytes behind the last line feed
+unfoldable pub openLine : List ℕ → List ℕ → List ℕ
+openLine p [] = p
+openLine p (c ∷ s) = cond (eqb c lineFeed) (openLine [] s) (openLine (p ++ c ∷ []) s)
+
+-- "the last may lack it": bytes behind the last line feed are a line, and none are not
+abbrev pub lastLine : List ℕ → List (List ℕ)
+lastLine [] = []
+lastLine (c ∷ s) = (c ∷ s) ∷ []
+
+-- "dating lines ended by a line feed (the last may lack it)"
+abbrev pub linesOf : List ℕ → List (List ℕ)
+linesOf s = endedLines [] s ++ lastLine (openLine [] s)
+
+-- t has the answer to each line, one behind the other
+abbrev pub Answers : List (List ℕ) → List ℕ → Type 0
+Answers [] t = t ≡ []
+Answers (l ∷ ls) t = (a : List ℕ) × ((u : List ℕ) × (IsAnswer l a × (Answers ls u × (t ≡ a ++ u))))
+
+-- t is the output for the input s
+abbrev pub IsOutput : List ℕ → List ℕ → Type 0
+IsOutput s t = Answers (linesOf s) t
