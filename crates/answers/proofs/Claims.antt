@@ -5,7 +5,7 @@ use Prim.Native.Nat.{ℕ}
 use Rattle.answers.proofs.block.Laws as laws
 use Rattle.words.specs.Text.{has}
 use Rattle.answers.specs.Block.{AnswersBlock, AnswersLast, joined, Run}
-use Rattle.answers.specs.Lines.{linesOf, IsOutput}
+use Rattle.answers.specs.Lines.{lastLine, linesOf, IsOutput}
 use Rattle.answers.specs.declared.block.Progress.{Progress}
 
 -- However an input is cut into blocks, what is written for them is the output for the whole.
@@ -23,4 +23,4 @@ one-block s b m n o p q r u h k = laws.one-block s b m n o p q r u h k
 
 -- Any two results of the last line are one: the same number, and the same bytes in the buffer.
 pub one-last : (s o p q : List ℕ) (r u : ℕ) → AnswersLast s o p r → AnswersLast s o q u → (r ≡ u) × (p ≡ q)
-one-last s o p q r u h k = laws.one-last s o p q r u h k
+one-last s o p q r u h k = laws.one-written (lastLine s) o p q r u h k

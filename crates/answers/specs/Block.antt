@@ -1,7 +1,7 @@
 -- An input that comes in blocks.
 use mathlib.Core.List.{List, [], _∷_, _++_}
 use mathlib.Core.Path.{_≡_}
-use Prim.Native.Nat.{ℕ}
+use Prim.Native.Nat.{ℕ, _≤_}
 use lib.ListN.{length, take, drop}
 use Rattle.answers.specs.Lines.{endedLines, openLine, lastLine, Answers}
 use Rattle.answers.specs.declared.block.Progress.{Progress}
@@ -14,21 +14,23 @@ kept s = take 121 s
 abbrev pub over : List ℕ → List ℕ → List ℕ
 over w s = w ++ drop (length w) s
 
--- the lines that end in the bytes s at a buffer's start are answered, and what is kept of the open line stands at its start
-pub record AnswersBlock (s : List ℕ) (buffer-before buffer-after output-before output-after : List ℕ) (r : Progress) : Type 0 where
+-- the answers to the lines ls are written at the start of a buffer that has room for them, and n is how many bytes they have
+pub record Written (ls : List (List ℕ)) (before after : List ℕ) (n : ℕ) : Type 0 where
   pub text : List ℕ
-  pub answers : Answers (endedLines [] s) text
-  pub written : r .written ≡ length text
-  pub output : output-after ≡ over text output-before
+  pub answers : Answers ls text
+  pub room : length text ≤ length before
+  pub count : n ≡ length text
+  pub bytes : after ≡ over text before
+
+-- the lines that end in the bytes s of a buffer are answered, and what is kept of the open line stands at the buffer's start
+pub record AnswersBlock (s buffer-before buffer-after output-before output-after : List ℕ) (r : Progress) : Type 0 where
+  pub output : Written (endedLines [] s) output-before output-after (r .written)
   pub keeps : r .kept ≡ length (kept (openLine [] s))
   pub buffer : buffer-after ≡ over (kept (openLine [] s)) buffer-before
 
--- the line s that no line feed ended, if there is one, is answered, and r bytes are written
-pub record AnswersLast (s output-before output-after : List ℕ) (r : ℕ) : Type 0 where
-  pub text : List ℕ
-  pub answers : Answers (lastLine s) text
-  pub written : r ≡ length text
-  pub output : output-after ≡ over text output-before
+-- the line s that no line feed ended, if there is one, is answered
+abbrev pub AnswersLast : List ℕ → (before after : List ℕ) → ℕ → Type 0
+AnswersLast s before after n = Written (lastLine s) before after n
 
 -- the bytes of all blocks, one behind the other
 abbrev pub joined : List (List ℕ) → List ℕ

@@ -7,9 +7,13 @@ use answers::block::answer_last;
 use libc::STDERR_FILENO;
 use libc::STDIN_FILENO;
 use libc::STDOUT_FILENO;
+ghost use Prim.Native.Nat.{_≤_};
+ghost use lib.ListN.{length};
 
 // Writes the first bytes of the output, and tells on standard error where that fails.
-fn put(output: &[u8], count: usize) -> bool {
+fn put(output: &[u8], count: usize) -> bool
+    requires { ⌜ count ≤ length (now output) ⌝ }
+{
     if io::write_all(STDOUT_FILENO, &output[..count]) {
         return true;
     }

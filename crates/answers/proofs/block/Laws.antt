@@ -8,7 +8,7 @@ use native.Mathlib.Decide.{decLt}
 use native.Mathlib.Numerals.{add-one}
 use native.Mathlib.Omega.{arith}
 use lib.Dec.{eqb}
-use lib.ListN.{set, drop, getD, length-drop, length, take, length-append}
+use lib.ListN.{length-take, set, drop, getD, length-drop, length, take, length-append}
 use lib.Seq.{take-add, drop-at, drop-cons, set-append-seam, append-snoc, getD-append-add, take-length, sets, length-sets, take-suc, getD-drop, length-take-le, take-all, take-append-le, take-take}
 use borrow.Author.Tests.{eq-eqb, ne-eqb, le-leb}
 use Rattle.words.proofs.text.Laws.{rest, no-false, has-append}
@@ -17,7 +17,7 @@ use Rattle.dating.proofs.answer.Laws.{answer-length, overlong}
 use Rattle.dating.proofs.writer.Laws.{sets-both, sets-start}
 use Rattle.words.specs.Text.{has}
 use Rattle.dating.specs.Answer.{PutsAnswer, IsAnswer, lineFeed}
-use Rattle.answers.specs.Block.{joined, Run, AnswersBlock, AnswersLast, over, kept}
+use Rattle.answers.specs.Block.{Written, joined, Run, AnswersBlock, AnswersLast, over, kept}
 use Rattle.answers.specs.Lines.{lastLine, endedLines, openLine, Answers}
 use Rattle.answers.specs.Steps.{AnswersEnded}
 use Rattle.answers.specs.declared.block.Ended.{Ended}
@@ -270,10 +270,13 @@ all-ended s before written start i after p end room =
     let whole = take-all i s end in
     let k : i - start ≡ length s - start = omega arith in
     record {
-      text = p .text;
-      answers = rw whole at (p .answers);
-      written = p .count;
-      output = p .output ∙ sets-start (p .text) before (omega arith);
+      output = record {
+        text = p .text;
+        answers = rw whole at (p .answers);
+        room = omega arith;
+        count = count;
+        bytes = p .output ∙ sets-start (p .text) before (omega arith);
+      };
       inside = omega arith;
       left = sym (rest start s) ∙ rw (k, whole) at (p .left);
     }
@@ -353,16 +356,13 @@ module _ (n e : ℕ) (b : List ℕ) (part : e ≡ min n (length b)) where
       let all = length-drop (r .start) b in
       let count = length-take-le k (drop (r .start) b) (omega arith) in
       rw (← front) (record {
-        text = h .text;
-        answers = h .answers;
-        written = h .written;
         output = h .output;
         keeps = sym count ∙ ap length keeps;
         buffer = moves ∙ ap (λ (w : List ℕ). over w b) keeps;
       })
 
   pub no-line : (o : List ℕ) → e ≡ 0 → AnswersLast (take n b) o o 0
-  no-line o z = rw (← front, z) (record { text = []; answers = refl; written = refl; output = refl })
+  no-line o z = rw (← front, z) (record { text = []; answers = refl; room = omega arith; count = refl; bytes = refl })
 
   pub last-answered : (o p : List ℕ) (r : ℕ) → (e ≡ 0 → ⊥) → 25 ≤ length o → PutsAnswer (take e b) 0 o p r → AnswersLast (take n b) o p r
   last-answered o p r some room h = go (rw (le-leb 25 (length o) room) at h)
@@ -374,21 +374,30 @@ module _ (n e : ℕ) (b : List ℕ) (part : e ≡ min n (length b)) where
           rw (← front) (record {
             text = t;
             answers = rw (last-some (take e b) (omega arith)) (t, ([], (told, (refl, sym (append-nil t)))));
-            written = count;
-            output = bytes ∙ sets-start t o (omega arith);
+            room = omega arith;
+            count = count;
+            bytes = bytes ∙ sets-start t o (omega arith);
           })
 
 -- ---- one result for each call
+pub one-written : (ls : List (List ℕ)) (o p q : List ℕ) (n m : ℕ) → Written ls o p n → Written ls o q m → (n ≡ m) × (p ≡ q)
+one-written ls o p q n m h k =
+    let text = one-output ls (h .text) (k .text) (h .answers) (k .answers) in
+    (h .count ∙ ap length text ∙ sym (k .count), h .bytes ∙ ap (λ (t : List ℕ). over t o) text ∙ sym (k .bytes))
+
 pub one-block : (s b m n o p q : List ℕ) (r u : Progress) → AnswersBlock s b m o p r → AnswersBlock s b n o q u → (r ≡ u) × ((m ≡ n) × (p ≡ q))
 one-block s b m n o p q r u h k =
-    let text = one-output (endedLines [] s) (h .text) (k .text) (h .answers) (k .answers) in
-    let written = h .written ∙ ap length text ∙ sym (k .written) in
-    let keeps = h .keeps ∙ sym (k .keeps) in (
-      λ i. record { written = written i; kept = keeps i },
-      (h .buffer ∙ sym (k .buffer), h .output ∙ ap (λ (t : List ℕ). over t o) text ∙ sym (k .output)),
-    )
+    let output = one-written (endedLines [] s) o p q (r .written) (u .written) (h .output) (k .output) in
+    let keeps = h .keeps ∙ sym (k .keeps) in
+    (λ i. record { written = output .0 i; kept = keeps i }, (h .buffer ∙ sym (k .buffer), output .1))
 
-pub one-last : (s o p q : List ℕ) (r u : ℕ) → AnswersLast s o p r → AnswersLast s o q u → (r ≡ u) × (p ≡ q)
-one-last s o p q r u h k =
-    let text = one-output (lastLine s) (h .text) (k .text) (h .answers) (k .answers) in
-    (h .written ∙ ap length text ∙ sym (k .written), h .output ∙ ap (λ (t : List ℕ). over t o) text ∙ sym (k .output))
+-- ---- lengths
+pub written-length : {ls : List (List ℕ)} {o p : List ℕ} {n : ℕ} → Written ls o p n → (length p ≡ length o) × (n ≤ length o)
+written-length {o = o} h =
+    let all = ap length (h .bytes) ∙ over-length (h .text) o (h .room) in
+    (all, omega (arith, h .count, h .room))
+
+pub kept-length : {s b m o p : List ℕ} {r : Progress} → AnswersBlock s b m o p r → 121 ≤ length b → (length m ≡ length b) × (r .kept ≤ 121)
+kept-length {s} {b} h room =
+    let few = length-take 121 (openLine [] s) in
+    (ap length (h .buffer) ∙ over-length (kept (openLine [] s)) b (omega arith), omega (arith, h .keeps))
