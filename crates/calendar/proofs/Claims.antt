@@ -13,7 +13,7 @@ use Rattle.calendar.proofs.weekday.Laws.{is-later, is-earlier}
 use Rattle.calendar.specs.Date.{daysOfMonths, isDate, dayNumber, dayInYear, dayOfDate, IsDateInStyle, IsDateOfDay, nextDate}
 use Rattle.calendar.specs.Distance.{distanceOfDays}
 use Rattle.calendar.specs.Range.{between}
-use Rattle.calendar.specs.Span.{inSpan, within, dayOrRefusal}
+use Rattle.calendar.specs.Span.{firstDay, lastDay, inSpan, within, dayOrRefusal}
 use Rattle.calendar.specs.Style.{styleNumber, styleOf, inStyle}
 use Rattle.calendar.specs.Weekday.{weekday, firstWeekday}
 use Rattle.calendar.specs.Year.{daysOfYears, newYear, served}
@@ -66,6 +66,20 @@ pub next-date : (s : Style) (n y m d : ℕ) (r : DateAnswer) → IsDateOfDay (st
     → IsDateOfDay (styleNumber s) (n + 1) r → r ≡ nextDate s y m d
 next-date s n y m d r h i h′ =
     laws.one-answer s (n + 1) r (nextDate s y m d) (rw by-number at h′) (laws.next-date s n y m d (rw by-number at h) i)
+
+-- The span begins on 1 January 1 in J and on 15 October 1582 in G, and ends on 31 December 9999 in both.
+pub span-ends : (dayNumber Julian 1 1 1 ≡ firstDay Julian) × ((dayNumber Gregorian 1582 10 15 ≡ firstDay Gregorian) × ((s : Style) → dayNumber s 9999 12 31 ≡ lastDay s))
+unfolding dayNumber daysOfMonths newYear daysOfYears
+span-ends = (refl, (refl, λ s. last s))
+  where
+    last : (s : Style) → dayNumber s 9999 12 31 ≡ lastDay s
+    last Julian = refl
+    last Gregorian = refl
+
+-- Both styles may name the same day: 5 October 1582 J is 15 October 1582 G.
+pub same-day : dayOfDate (styleNumber Julian) 1582 10 5 ≡ dayOfDate (styleNumber Gregorian) 1582 10 15
+unfolding styleOf dayInYear served isDate within inSpan between dayNumber daysOfMonths newYear daysOfYears
+same-day = refl
 
 -- A G year below 1582 is refused by 4, whatever the month and the day.
 pub early-year : (y m d : ℕ) → y < 1582 → dayOrRefusal (dayOfDate (styleNumber Gregorian) y m d) ≡ 4

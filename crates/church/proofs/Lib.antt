@@ -1,3 +1,2 @@
--- Claims and Known are what the year sheet and the feasts promise beyond their contracts; the rest are steps to them, each subject's in its folder.
+-- Claims is what the year sheet and the feasts promise beyond their contracts; the rest are steps to it, each subject's in its folder.
 pub mod Claims
-pub mod Known

@@ -1,15 +1,23 @@
--- The scope's lines that are to be proved, rows of one table, under one claim.
+-- The scope's cases that are to be proved, in its order: rows of one table, under one claim.
+use mathlib.Core.Bool.{Bool, true, false}
 use mathlib.Core.List.{List, [], _∷_}
 use mathlib.Core.Path.{_≡_, refl}
+use Prim.Native.Char.{code}
 use Prim.Native.Nat.{ℕ}
 use Prim.Native.String.{String}
 use native.Mathlib.Omega.{arith}
-use Rattle.calendar.proofs.Table.{All, none, _also_}
+use Rattle.dating.proofs.Table.{All, none, _also_}
+use Rattle.church.proofs.letter.Laws.{sundays}
 use Rattle.calendar.specs.Date.{daysOfMonths, isDate, dayNumber, dayInYear}
 use Rattle.calendar.specs.Range.{between}
+use Rattle.calendar.specs.Search.{firstOf}
 use Rattle.calendar.specs.Span.{inSpan, within}
-use Rattle.calendar.specs.Weekday.{weekday}
+use Rattle.calendar.specs.Weekday.{weekday, firstWeekday}
 use Rattle.calendar.specs.Year.{named, daysOfYears, newYear, served}
+use Rattle.church.specs.Column.{stands, luna}
+use Rattle.church.specs.Easter.{limit, march, easter, key}
+use Rattle.church.specs.Epact.{golden, epact, arabic}
+use Rattle.church.specs.Letter.{Part, first, second, SundayLetter}
 use Rattle.words.specs.Numeral.{decimal}
 use Rattle.words.specs.Text.{bytes}
 use Rattle.words.specs.Told.{produced}
@@ -17,20 +25,61 @@ use Rattle.dating.specs.Anchor.{date, spellAnchor, GoodAnchor, anchorDay
 use Rattle.dating.specs.Line.{spellLine, lineDay, fit, IsNumberOfLine}
 use Rattle.dating.specs.Phrase.{plain, wrapped, spellPhrase, GoodPhrase, anchorOf, wrappersAct, phraseDay}
 use Rattle.calendar.specs.declared.style.Style.the-variants.{Julian, Gregorian}
+use Rattle.calendar.specs.declared.style.Style.{Style}
 use Rattle.words.specs.declared.wrapper.Wrapper.the-variants.{Eve, Morrow}
 
--- what a line is answered by, a day or a refusal, and a day's weekday
+-- what is said of a year, of a line, which is answered by a day or a refusal, and of a day
 pub data Row : Type 0 where
+  golden-number : (year : ℕ) → ℕ → Row
+  year-epact : (year : ℕ) → Style → ℕ → Row
+  is-arabic : (year : ℕ) → Style → Bool → Row
+  sunday-letter : (year : ℕ) → Style → Part → ℕ → Row
+  limit-on : (year : ℕ) → Style → (day month : ℕ) → Row
+  limit-falls : (year : ℕ) → Style → (on-weekday : ℕ) → Row
+  easter-on : (year : ℕ) → Style → (day month : ℕ) → Row
+  easter-key : (year : ℕ) → Style → ℕ → Row
   tells : (line : String) → (number : ℕ) → Row
   falls : (day on-weekday : ℕ) → Row
 
 abbrev pub Holds : Row → Type 0
+Holds (golden-number y g) = golden y ≡ g
+Holds (year-epact y s e) = epact s y ≡ e
+Holds (is-arabic y s a) = arabic s y ≡ a
+Holds (sunday-letter y s p l) = SundayLetter s y p l
+Holds (limit-on y s d m) = march s y (limit s y) ≡ dayNumber s y m d
+Holds (limit-falls y s w) = weekday (march s y (limit s y)) ≡ w
+Holds (easter-on y s d m) = easter s y ≡ dayNumber s y m d
+Holds (easter-key y s k) = key s y ≡ k
 Holds (tells line n) = IsNumberOfLine (bytes line) n
 Holds (falls n w) = weekday n ≡ w
 
 abbrev pub table : List Row
 table =
-    tells "29.2 1900 J" 2415092
+    year-epact 2025 Gregorian 0
+    ∷ limit-on 2025 Gregorian 13 4
+    ∷ limit-falls 2025 Gregorian 7
+    ∷ easter-on 2025 Gregorian 20 4
+    ∷ golden-number 1954 17
+    ∷ year-epact 1954 Gregorian 25
+    ∷ is-arabic 1954 Gregorian true
+    ∷ limit-on 1954 Gregorian 17 4
+    ∷ easter-on 1954 Gregorian 18 4
+    ∷ golden-number 1810 6
+    ∷ year-epact 1810 Gregorian 25
+    ∷ is-arabic 1810 Gregorian false
+    ∷ limit-on 1810 Gregorian 18 4
+    ∷ easter-on 1810 Gregorian 22 4
+    ∷ year-epact 1981 Gregorian 24
+    ∷ limit-on 1981 Gregorian 18 4
+    ∷ easter-on 1981 Gregorian 19 4
+    ∷ easter-key 1818 Gregorian 1
+    ∷ easter-key 1943 Gregorian 35
+    ∷ golden-number 1225 10
+    ∷ sunday-letter 1225 Julian first (code "E")
+    ∷ sunday-letter 1225 Julian second (code "E")
+    ∷ limit-on 1225 Julian 27 3
+    ∷ easter-on 1225 Julian 30 3
+    ∷ tells "29.2 1900 J" 2415092
     ∷ falls 2415092 2
     ∷ tells "15.10 1582 G" 2299161
     ∷ tells "14.10 1582 G" 6
@@ -38,11 +87,17 @@ table =
     ∷ tells "morrow of eve of 1.1 1 J" 6
     ∷ []
 
--- Each row of the table holds.
+-- Each row of the table holds: those of years by computation, those of lines by their trees.
 pub known : All Holds table
-unfolding between spellLine spellPhrase spellAnchor decimal GoodPhrase GoodAnchor lineDay phraseDay wrappersAct anchorOf anchorDay dayInYear served isDate within inSpan dayNumber daysOfMonths newYear daysOfYears
+unfolding golden epact arabic stands luna limit march easter key firstWeekday firstOf between spellLine spellPhrase spellAnchor decimal GoodPhrase GoodAnchor lineDay phraseDay wrappersAct anchorOf anchorDay dayInYear served isDate within inSpan dayNumber daysOfMonths newYear daysOfYears
 known =
-    fit refl (produced (record { phrase = plain (date 29 2); named = named Julian 1900 }) (record { phrase = omega arith; year = omega arith }) refl refl)
+    refl also refl also refl also refl
+    also refl also refl also refl also refl also refl
+    also refl also refl also refl also refl also refl
+    also refl also refl also refl
+    also refl also refl
+    also refl also sundays Julian 1225 first also sundays Julian 1225 second also refl also refl
+    also fit refl (produced (record { phrase = plain (date 29 2); named = named Julian 1900 }) (record { phrase = omega arith; year = omega arith }) refl refl)
     also refl
     also fit refl (produced (record { phrase = plain (date 15 10); named = named Gregorian 1582 }) (record { phrase = omega arith; year = omega arith }) refl refl)
     also fit refl (produced (record { phrase = plain (date 14 10); named = named Gregorian 1582 }) (record { phrase = omega arith; year = omega arith }) refl refl)
