@@ -2,17 +2,14 @@
 use mathlib.Core.List.{List, [], _∷_, _++_}
 use mathlib.Core.Path.{_≡_}
 use Prim.Native.Nat.{ℕ, _≤_}
-use lib.ListN.{length, take, drop}
+use lib.ListN.{length, take}
+use Rattle.words.specs.Text.{over}
 use Rattle.answers.specs.Lines.{endedLines, openLine, lastLine, Answers}
 use Rattle.answers.specs.declared.block.Progress.{Progress}
 
 -- what is kept of a line that is still open: enough to tell that it "has .. more than 120 bytes"
 abbrev pub kept : List ℕ → List ℕ
 kept s = take 121 s
-
--- the bytes w at a buffer's start, the later ones as they were
-abbrev pub over : List ℕ → List ℕ → List ℕ
-over w s = w ++ drop (length w) s
 
 -- the answers to the lines ls are written at the start of a buffer that has room for them, and n is how many bytes they have
 pub record Written (ls : List (List ℕ)) (before after : List ℕ) (n : ℕ) : Type 0 where

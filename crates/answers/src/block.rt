@@ -3,7 +3,8 @@ use dating::answer::put_answer;
 ghost use mathlib.Core.Path.{_≡_};
 ghost use Prim.Native.Nat.{_+_, _*_, _≤_, min};
 ghost use lib.ListN.{length, take, drop};
-ghost use Rattle.answers.specs.Block.{over, AnswersBlock, AnswersLast};
+ghost use Rattle.words.specs.Text.{over};
+ghost use Rattle.answers.specs.Block.{AnswersBlock, AnswersLast};
 ghost use Rattle.answers.specs.Steps.{AnswersEnded};
 
 // The bytes of the buffer for input.

@@ -3,14 +3,14 @@ use mathlib.Core.List.{List, _∷_, _++_}
 use mathlib.Core.Path.{_≡_}
 use Prim.Native.Nat.{ℕ}
 use lib.Dec.{leb}
-use lib.ListN.{length, drop}
+use lib.ListN.{length}
 use Rattle.calendar.specs.Date.{dayInYear}
 use Rattle.calendar.specs.Refusal.{unless}
 use Rattle.calendar.specs.Span.{inSpan}
 use Rattle.calendar.specs.Style.{styleOf, inStyle}
 use Rattle.calendar.specs.Year.{named}
 use Rattle.words.specs.Numeral.{numeral}
-use Rattle.words.specs.Text.{point}
+use Rattle.words.specs.Text.{point, over}
 use Rattle.dating.specs.Line.{ending}
 use Rattle.calendar.specs.declared.refusal.Refusal.{Refusal}
 use Rattle.calendar.specs.declared.refusal.Refusal.the-variants.{Length, Span}
@@ -40,7 +40,7 @@ module _ (before after : List ℕ) (r : WriteAnswer) where
 
   -- the bytes w "at the buffer's start, .. and answers the number of bytes; later bytes stay"
   abbrev pub Puts : List ℕ → Type 0
-  Puts w = (r ≡ Bytes (length w)) × (after ≡ w ++ drop (length w) before)
+  Puts w = (r ≡ Bytes (length w)) × (after ≡ over w before)
 
   -- the writer in a style: refused by 2, "the writer's buffer has fewer than 12", or 6
   abbrev pub WritesInStyle : Style → ℕ → Type 0

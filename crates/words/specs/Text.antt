@@ -1,6 +1,6 @@
--- Texts as bytes, and where they are cut.
+-- Texts as bytes, where they are cut, and where they are put.
 use mathlib.Core.Bool.{Bool, false, _||_}
-use mathlib.Core.List.{List, [] as nil, _∷_ as cons}
+use mathlib.Core.List.{List, [] as nil, _∷_ as cons, _++_}
 use mathlib.Core.Path.{_≡_}
 use Prim.Native.Char.{code}
 use Prim.Native.Nat.{ℕ, _-_, _<_, _≤_}
@@ -29,3 +29,7 @@ pub record BehindLast (c : ℕ) (s : List ℕ) (i : ℕ) : Type 0 where
   pub inside : i ≤ length s
   pub behind : has c (drop i s) ≡ false
   pub last : 0 < i → getD s (i - 1) 0 ≡ c
+
+-- the bytes w over the first of s; the later ones stay
+abbrev pub over : List ℕ → List ℕ → List ℕ
+over w s = w ++ drop (length w) s

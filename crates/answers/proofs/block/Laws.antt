@@ -15,9 +15,9 @@ use Rattle.words.proofs.text.Laws.{rest, no-false, has-append}
 use Rattle.dating.proofs.Claims.{one-text}
 use Rattle.dating.proofs.answer.Laws.{answer-length, overlong}
 use Rattle.dating.proofs.writer.Laws.{sets-both, sets-start}
-use Rattle.words.specs.Text.{has}
+use Rattle.words.specs.Text.{over, has}
 use Rattle.dating.specs.Answer.{PutsAnswer, IsAnswer, lineFeed}
-use Rattle.answers.specs.Block.{Written, joined, Run, AnswersBlock, AnswersLast, over, kept}
+use Rattle.answers.specs.Block.{Written, joined, Run, AnswersBlock, AnswersLast, kept}
 use Rattle.answers.specs.Lines.{lastLine, endedLines, openLine, Answers}
 use Rattle.answers.specs.Steps.{AnswersEnded}
 use Rattle.answers.specs.declared.block.Ended.{Ended}

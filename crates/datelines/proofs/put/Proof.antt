@@ -6,7 +6,8 @@ use Rattle.datelines.proofs.put.Tie as tie
 
 slice-aggregate-write-all : tie.Need-slice-aggregate-write-all
 slice-aggregate-write-all c =
-    sym (length-take-le (c .before .before .args .count) (c .before .before .args .output .now) ((c .before .before .pre)))
+    let a = c .before .before .args in
+    sym (length-take-le (a .count) (a .output .now) ((c .before .before .pre)))
 
 pub put-spec : {M : Type 1} → statement M
 put-spec =

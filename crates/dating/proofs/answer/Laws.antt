@@ -17,7 +17,7 @@ use Rattle.dating.proofs.line.Laws as line-laws
 use Rattle.dating.proofs.line.Laws.{one-letter, letter-told, letter-untold, last-letter, line-length, too-many}
 use Rattle.dating.proofs.phrase.Laws.{phrase-in-span}
 use Rattle.dating.proofs.writer.Laws as writer-laws
-use Rattle.dating.proofs.writer.Laws.{put-on, put-byte, field-length}
+use Rattle.dating.proofs.writer.Laws.{put-on, put-length, put-byte, field-length}
 use Rattle.calendar.specs.Refusal.{refusalNumber, unless}
 use Rattle.calendar.specs.Span.{inSpan}
 use Rattle.calendar.specs.Weekday.{weekday, weekdayInStyle, weekdayOrZero}
@@ -93,11 +93,19 @@ module _ (s : Style) (n : ℕ) (h : inSpan s n ≡ true) where
 text-fields : (n : ℕ) (w : List ℕ) → datedText n w ≡ dayFields n ++ w ++ lineFeed ∷ []
 text-fields n w = simp (append-assoc {A = ℕ})
 
-pub dated-put : (s : Style) (n : ℕ) {before c d : List ℕ} {i j k : ℕ} → Put before i (dayFields n) c j → PutsDate s n j c d k
-    → PutsReading (dated s n) i before (set d k lineFeed) (k + 1)
-dated-put s n {d = d} {k = k} p t =
-    let w = t .0 in
-    (datedText n w, ((w, (t .1 .0, refl)), rw (text-fields n w) (put-on (put-on p (t .1 .1)) (put-byte d k lineFeed))))
+module _ (s : Style) (n : ℕ) {before c d : List ℕ} {i j k : ℕ} (p : Put before i (dayFields n) c j) (q : PutsDate s n j c d k) where
+  pub dated-put : PutsReading (dated s n) i before (set d k lineFeed) (k + 1)
+  dated-put =
+      let w = q .0 in
+      (datedText n w, ((w, (q .1 .0, refl)), rw (text-fields n w) (put-on (put-on p (q .1 .1)) (put-byte d k lineFeed))))
+
+  -- room for the line feed
+  pub feed-room : inSpan s n ≡ true → i + 25 ≤ length before → k < length d
+  feed-room h room =
+      let head = fields-length s n h .1 in
+      let date = writer-laws.text-length s n (q .0) (q .1 .0) in
+      let same = put-length (q .1 .1) ∙ put-length p in
+      omega (arith, p .behind, q .1 .1 .behind)
 
 -- ---- the answer put at a place with room for the longest
 pub room : (i n : ℕ) → 25 ≤ n → i ≤ n - 25 → leb (i + 25) n ≡ true

@@ -20,7 +20,7 @@ use Rattle.calendar.specs.Span.{inSpan, within}
 use Rattle.calendar.specs.Style.{styleNumber, styleLetter, styleOf, inStyle}
 use Rattle.calendar.specs.Year.{named}
 use Rattle.words.specs.Numeral.{digit, numeral}
-use Rattle.words.specs.Text.{space, point}
+use Rattle.words.specs.Text.{space, point, over}
 use Rattle.words.specs.Told.{produced}
 use Rattle.dating.specs.Anchor.{date, spellAnchor, GoodAnchor, anchorDay}
 use Rattle.dating.specs.Line.{spellLine, lineDay, fit, IsDayOfLine}
@@ -56,7 +56,7 @@ sets-last (x ∷ w) s i c =
     rw (e, set-comm s (suc i + length w) i c x other) (sets-last w (set s i x) (suc i) c)
 
 -- bytes put at the start stand before the rest
-pub sets-start : (w s : List ℕ) → length w ≤ length s → sets s 0 w ≡ w ++ drop (length w) s
+pub sets-start : (w s : List ℕ) → length w ≤ length s → sets s 0 w ≡ over w s
 sets-start w s h = let e : 0 + length w ≡ length w = omega arith in sets-eq w s 0 (omega arith) ∙ rw e
 
 -- ---- a numeral, put from its last digit on
@@ -101,9 +101,16 @@ module _ (t : NamedYear) (m d : ℕ) where
       let c = length-append (field d point) (field m space) in
       ap length date-fields ∙ omega arith
 
-  pub date-put : {s : List ℕ} {i : ℕ} {a b c : List ℕ} {j k l : ℕ} (x : ℕ) → Put s i (field d point) a j → Put a j (field m space) b k
-      → Put b k (field (t .year) space) c l → x ≡ styleLetter (t .style) → Put s i (dateText t m d) (set c l x) (l + 1)
-  date-put {c = c} {l = l} x p q r e = rw (date-fields, ← e) (put-on (put-on (put-on p q) r) (put-byte c l x))
+  module _ {s a b c : List ℕ} {i j k l : ℕ} (p : Put s i (field d point) a j) (q : Put a j (field m space) b k) (r : Put b k (field (t .year) space) c l) where
+    pub date-put : (x : ℕ) → x ≡ styleLetter (t .style) → Put s i (dateText t m d) (set c l x) (l + 1)
+    date-put x e = rw (date-fields, ← e) (put-on (put-on (put-on p q) r) (put-byte c l x))
+
+    -- room for the letter
+    pub letter-room : i + length (dateText t m d) ≤ length s → l < length c
+    letter-room room =
+        let all = date-length in
+        let same = put-length r ∙ put-length q ∙ put-length p in
+        omega (arith, p .behind, q .behind, r .behind)
 
 pub field-length : (n c : ℕ) → length (field n c) ≡ length (numeral n) + 1
 field-length n c = length-append (numeral n) (c ∷ [])
@@ -196,7 +203,7 @@ module _ (before a b : List ℕ) (r q : WriteAnswer) where
       go true false h g = one-refusal Span h g
       go true true h g =
           let same = one-text s n (h .0) (g .0) (h .1 .0) (g .1 .0) in
-          (h .1 .1 .0 ∙ ap (λ (w : List ℕ). Bytes (length w)) same ∙ sym (g .1 .1 .0), h .1 .1 .1 ∙ ap (λ (w : List ℕ). w ++ drop (length w) before) same ∙ sym (g .1 .1 .1))
+          (h .1 .1 .0 ∙ ap (λ (w : List ℕ). Bytes (length w)) same ∙ sym (g .1 .1 .0), h .1 .1 .1 ∙ ap (λ (w : List ℕ). over w before) same ∙ sym (g .1 .1 .1))
 
 pub one-writing : (k n : ℕ) (before a b : List ℕ) (r q : WriteAnswer) → Writes before a r k n → Writes before b q k n → (r ≡ q) × (a ≡ b)
 one-writing k n before a b r q h g = go (styleOf k) h g

@@ -14,7 +14,9 @@ abbrev μ-loop : tie.MeasureT-loop
 μ-loop input output₀ written₀ start₀ i₀ output written start i = length input - i
 
 loop-holds : tie.Need-loop-holds Inv-loop μ-loop
-loop-holds c = at-first (c .before .before .args .input .now) (c .before .before .args .output .now)
+loop-holds c =
+    let a = c .before .before .args in
+    at-first (a .input .now) (a .output .now)
 
 shared-slice-read-if1 : tie.Need-shared-slice-read-if1 Inv-loop μ-loop
 shared-slice-read-if1 c = c .before .loop-test .taken
@@ -30,8 +32,10 @@ part-put-answer-end c = search (needs, c .before .before .before .loop .inv)
 
 add-written : tie.Need-add-written Inv-loop μ-loop
 add-written c =
-    let next = line-end (c .before .before .before .before .before .before .before .before .before .before .before .args .input .now) (c .before .before .before .before .before .before .before .before .before .before .before .args .output .now) (c .before .before .before .before .before .before .before .before .loop .written) (c .before .before .before .before .before .before .before .before .loop .start) (c .before .before .before .before .before .before .before .before .loop .i) (c .before .before .before .before .before .before .before .before .loop .output) (c .before .before .before .before .before .before .before .before .loop .inv) (c .before .before .before .before .before .before .before .loop-test .taken) _ _ (c .before .before .before .before .before .if1 .taken) (has-room (c .before .before .before .before .before .before .before .before .before .before .before .args .input .now) (c .before .before .before .before .before .before .before .before .before .before .before .args .output .now) (c .before .before .before .before .before .before .before .before .loop .written) (c .before .before .before .before .before .before .before .before .loop .start) (c .before .before .before .before .before .before .before .before .loop .i) (c .before .before .before .before .before .before .before .before .loop .output) (c .before .before .before .before .before .before .before .before .loop .inv) (c .before .before .before .before .before .before .before .loop-test .taken) ((c .before .before .before .before .before .before .before .before .before .before .before .pre))) (c .before .before .put-answer .ensures) in
-    omega (arith, next .small, c .before .before .before .before .before .before .before .loop-test .taken, (c .before .before .before .before .before .before .before .before .before .before .before .pre))
+    let a = c .before .before .before .before .before .before .before .before .before .before .before .args in
+    let l = c .before .before .before .before .before .before .before .before .loop in
+    let next = line-end (a .input .now) (a .output .now) (l .written) (l .start) (l .i) (l .output) (l .inv) (c .before .before .before .before .before .before .before .loop-test .taken) _ _ (c .before .before .before .before .before .if1 .taken) (has-room (a .input .now) (a .output .now) (l .written) (l .start) (l .i) (l .output) (l .inv) (c .before .before .before .before .before .before .before .loop-test .taken) (c .before .before .before .before .before .before .before .before .before .before .before .pre)) (c .before .before .put-answer .ensures) in
+    omega (arith, next .small, c .before .before .before .before .before .before .before .loop-test .taken, c .before .before .before .before .before .before .before .before .before .before .before .pre)
 
 add-start : tie.Need-add-start Inv-loop μ-loop
 add-start c = omega (arith, c .before .before .before .before .before .before .before .loop-test .taken)
@@ -44,18 +48,24 @@ loop-less c = omega (arith, c .before .before .loop-test .taken)
 
 loop-again : tie.Need-loop-again Inv-loop μ-loop
 loop-again c =
+    let a = c .before .before .before .before .before .before .args in
+    let l = c .before .before .before .loop in
     ⊎-elim
-    (λ w. rw (w .6, w .7, w .8) (line-end (c .before .before .before .before .before .before .args .input .now) (c .before .before .before .before .before .before .args .output .now) (c .before .before .before .loop .written) (c .before .before .before .loop .start) (c .before .before .before .loop .i) (c .before .before .before .loop .output) (c .before .before .before .loop .inv) (c .before .before .loop-test .taken) _ _ (w .0 .taken) (has-room (c .before .before .before .before .before .before .args .input .now) (c .before .before .before .before .before .before .args .output .now) (c .before .before .before .loop .written) (c .before .before .before .loop .start) (c .before .before .before .loop .i) (c .before .before .before .loop .output) (c .before .before .before .loop .inv) (c .before .before .loop-test .taken) ((c .before .before .before .before .before .before .pre))) (w .3 .ensures)))
-    (λ w. rw (w .1, w .2, w .3) (another-byte (c .before .before .before .before .before .before .args .input .now) (c .before .before .before .before .before .before .args .output .now) (c .before .before .before .loop .written) (c .before .before .before .loop .start) (c .before .before .before .loop .i) (c .before .before .before .loop .output) (c .before .before .before .loop .inv) (c .before .before .loop-test .taken) (w .0 .left)))
+    (λ w. rw (w .6, w .7, w .8) (line-end (a .input .now) (a .output .now) (l .written) (l .start) (l .i) (l .output) (l .inv) (c .before .before .loop-test .taken) _ _ (w .0 .taken) (has-room (a .input .now) (a .output .now) (l .written) (l .start) (l .i) (l .output) (l .inv) (c .before .before .loop-test .taken) (c .before .before .before .before .before .before .pre)) (w .3 .ensures)))
+    (λ w. rw (w .1, w .2, w .3) (another-byte (a .input .now) (a .output .now) (l .written) (l .start) (l .i) (l .output) (l .inv) (c .before .before .loop-test .taken) (w .0 .left)))
     (c .if1 .came)
 
 same-length : tie.Need-same-length Inv-loop μ-loop
 same-length c =
-    sofar-length (c .before .before .before .before .args .input .now) (c .before .before .before .before .args .output .now) (c .before .loop .written) (c .before .loop .start) (c .before .loop .i) (c .before .loop .output) (c .before .loop .inv)
+    let a = c .before .before .before .before .args in
+    let l = c .before .loop in
+    sofar-length (a .input .now) (a .output .now) (l .written) (l .start) (l .i) (l .output) (l .inv)
 
 returns : tie.Need-returns Inv-loop μ-loop
 returns c =
-    all-ended (c .before .before .before .before .args .input .now) (c .before .before .before .before .args .output .now) (c .before .loop .written) (c .before .loop .start) (c .before .loop .i) (c .before .loop .output) (c .before .loop .inv) (c .loop-test .left) ((c .before .before .before .before .pre))
+    let a = c .before .before .before .before .args in
+    let l = c .before .loop in
+    all-ended (a .input .now) (a .output .now) (l .written) (l .start) (l .i) (l .output) (l .inv) (c .loop-test .left) ((c .before .before .before .before .pre))
 
 pub answer-ended-spec : {M : Type 1} → statement M
 answer-ended-spec =

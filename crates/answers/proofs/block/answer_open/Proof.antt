@@ -6,15 +6,18 @@ use Rattle.answers.proofs.block.answer_open.Tie as tie
 
 returns : tie.Need-returns
 returns c =
-    no-line (c .before .before .before .before .args .filled) (c .before .least .result) (c .before .before .before .before .args .buffer .now) (c .before .least .ensures) (c .before .before .before .before .args .output .now) (c .if1 .taken)
+    let a = c .before .before .before .before .args in
+    no-line (a .filled) (c .before .least .result) (a .buffer .now) (c .before .least .ensures) (a .output .now) (c .if1 .taken)
 
 slice-aggregate-put-answer : tie.Need-slice-aggregate-put-answer
 slice-aggregate-put-answer c =
-    sym (front-length (c .before .before .before .before .before .args .filled) (c .before .before .least .result) (c .before .before .before .before .before .args .buffer .now) (c .before .before .least .ensures))
+    let a = c .before .before .before .before .before .args in
+    sym (front-length (a .filled) (c .before .before .least .result) (a .buffer .now) (c .before .before .least .ensures))
 
 returns-2 : tie.Need-returns-2
 returns-2 c =
-    last-answered (c .before .before .before .before .before .before .before .before .before .args .filled) (c .before .before .before .before .before .before .least .result) (c .before .before .before .before .before .before .before .before .before .args .buffer .now) (c .before .before .before .before .before .before .least .ensures) (c .before .before .before .before .before .before .before .before .before .args .output .now) _ _ (c .before .before .before .before .before .if1 .left) ((c .before .before .before .before .before .before .before .before .before .pre)) (c .before .before .put-answer .ensures)
+    let a = c .before .before .before .before .before .before .before .before .before .args in
+    last-answered (a .filled) (c .before .before .before .before .before .before .least .result) (a .buffer .now) (c .before .before .before .before .before .before .least .ensures) (a .output .now) _ _ (c .before .before .before .before .before .if1 .left) ((c .before .before .before .before .before .before .before .before .before .pre)) (c .before .before .put-answer .ensures)
 
 pub answer-open-spec : {M : Type 1} → statement M
 answer-open-spec =

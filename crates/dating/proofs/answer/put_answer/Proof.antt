@@ -10,11 +10,13 @@ use Rattle.dating.proofs.answer.put_answer.Tie as tie
 
 returns : tie.Need-returns
 returns c =
-    rw (no-room (c .before .before .before .args .at) (length (c .before .before .before .args .buffer .now)) (inl (c .if1 .taken))) (refl, refl)
+    let a = c .before .before .before .args in
+    rw (no-room (a .at) (length (a .buffer .now)) (inl (c .if1 .taken))) (refl, refl)
 
 returns-2 : tie.Need-returns-2
 returns-2 c =
-    rw (no-room (c .before .before .before .before .args .at) (length (c .before .before .before .before .args .buffer .now)) (inr (c .if2 .taken))) (refl, refl)
+    let a = c .before .before .before .before .args in
+    rw (no-room (a .at) (length (a .buffer .now)) (inr (c .if2 .taken))) (refl, refl)
 
 sub-style-of-letter : tie.Need-sub-style-of-letter
 sub-style-of-letter c =
@@ -31,7 +33,8 @@ put-dated-requires c κs =
 
 returns-3 : tie.Need-returns-3
 returns-3 c =
-    answered (c .before .before .before .before .before .before .before .before .before .before .before .before .before .before .before .before .before .args .line .now) (c .before .before .before .before .before .before .before .before .before .before .before .before .before .before .before .before .before .args .at) (c .before .before .before .before .before .before .before .before .before .before .before .before .before .before .before .before .before .args .buffer .now) (dated _ _) (room (c .before .before .before .before .before .before .before .before .before .before .before .before .before .before .before .before .before .args .at) (length (c .before .before .before .before .before .before .before .before .before .before .before .before .before .before .before .before .before .args .buffer .now)) (c .before .before .before .before .before .before .before .before .before .before .before .before .before .before .if1 .left) (c .before .before .before .before .before .before .before .before .before .before .before .before .before .if2 .left)) (day-reading (c .before .before .before .before .before .before .before .before .before .before .before .before .before .before .before .before .before .args .line .now) _ _ (rw (c .before .before .before .before .before .before .before .before .before .before .day .given .1) at (c .before .before .before .before .before .before .before .before .before .before .before .before .day-of-line .ensures)) (rw (c .before .before .before .before .before .style .given .1) at (c .before .before .before .before .before .before .before .style-of-letter .ensures)) .0) (c .before .before .put-dated .ensures)
+    let a = c .before .before .before .before .before .before .before .before .before .before .before .before .before .before .before .before .before .args in
+    answered (a .line .now) (a .at) (a .buffer .now) (dated _ _) (room (a .at) (length (a .buffer .now)) (c .before .before .before .before .before .before .before .before .before .before .before .before .before .before .if1 .left) (c .before .before .before .before .before .before .before .before .before .before .before .before .before .if2 .left)) (day-reading (a .line .now) _ _ (rw (c .before .before .before .before .before .before .before .before .before .before .day .given .1) at (c .before .before .before .before .before .before .before .before .before .before .before .before .day-of-line .ensures)) (rw (c .before .before .before .before .before .style .given .1) at (c .before .before .before .before .before .before .before .style-of-letter .ensures)) .0) (c .before .before .put-dated .ensures)
 
 returns-4 : tie.Need-returns-4
 returns-4 c =
@@ -39,7 +42,8 @@ returns-4 c =
 
 returns-5 : tie.Need-returns-5
 returns-5 c =
-    answered (c .before .before .before .before .before .before .before .before .before .before .before .before .args .line .now) (c .before .before .before .before .before .before .before .before .before .before .before .before .args .at) (c .before .before .before .before .before .before .before .before .before .before .before .before .args .buffer .now) (refused _) (room (c .before .before .before .before .before .before .before .before .before .before .before .before .args .at) (length (c .before .before .before .before .before .before .before .before .before .before .before .before .args .buffer .now)) (c .before .before .before .before .before .before .before .before .before .if1 .left) (c .before .before .before .before .before .before .before .before .if2 .left)) (refused-reading (c .before .before .before .before .before .before .before .before .before .before .before .before .args .line .now) _ (rw (c .before .before .before .before .before .refusal .given .1) at (c .before .before .before .before .before .before .before .day-of-line .ensures))) (c .before .before .put-refused .ensures)
+    let a = c .before .before .before .before .before .before .before .before .before .before .before .before .args in
+    answered (a .line .now) (a .at) (a .buffer .now) (refused _) (room (a .at) (length (a .buffer .now)) (c .before .before .before .before .before .before .before .before .before .if1 .left) (c .before .before .before .before .before .before .before .before .if2 .left)) (refused-reading (a .line .now) _ (rw (c .before .before .before .before .before .refusal .given .1) at (c .before .before .before .before .before .before .before .day-of-line .ensures))) (c .before .before .put-refused .ensures)
 
 pub put-answer-spec : {M : Type 1} → statement M
 put-answer-spec =

@@ -10,8 +10,9 @@ use Rattle.dating.proofs.answer.put_refused.Tie as tie
 
 put-number-requires : tie.Need-put-number-requires
 put-number-requires c κs =
-    let l = digit-field (refusalNumber (c .before .before .before .args .refusal)) lineFeed (refusal-digit (c .before .before .before .args .refusal)) in
-    rw (c .refusal-number .ensures) (omega (arith, (c .before .before .before .pre)))
+    let a = c .before .before .before .args in
+    let l = digit-field (refusalNumber (a .refusal)) lineFeed (refusal-digit (a .refusal)) in
+    rw (c .refusal-number .ensures) (omega (arith, c .before .before .before .pre))
 
 returns : tie.Need-returns
 returns c =

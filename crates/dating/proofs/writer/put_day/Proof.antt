@@ -8,12 +8,14 @@ use Rattle.dating.proofs.writer.put_day.Tie as tie
 
 put-date-requires : tie.Need-put-date-requires
 put-date-requires c κs =
-    let few = twelve-bytes (c .before .before .before .before .before .before .args .style) (c .before .before .before .before .before .before .args .day) (c .before .before .year .given .0 .0) (c .before .before .year .given .0 .1 .0) (c .before .before .year .given .0 .1 .1 .0) (rw (c .before .before .year .given .1) at (c .before .before .before .before .date-in-style .ensures)) in
+    let a = c .before .before .before .before .before .before .args in
+    let few = twelve-bytes (a .style) (a .day) (c .before .before .year .given .0 .0) (c .before .before .year .given .0 .1 .0) (c .before .before .year .given .0 .1 .1 .0) (rw (c .before .before .year .given .1) at (c .before .before .before .before .date-in-style .ensures)) in
     omega (arith, c .before .before .before .before .before .before .pre .0)
 
 returns : tie.Need-returns
 returns c =
-    day-put (c .before .before .before .before .before .before .before .before .before .args .style) (c .before .before .before .before .before .before .before .before .before .args .day) (c .before .before .before .before .before .year .given .0 .0) (c .before .before .before .before .before .year .given .0 .1 .0) (c .before .before .before .before .before .year .given .0 .1 .1 .0) (rw (c .before .before .before .before .before .year .given .1) at (c .before .before .before .before .before .before .before .date-in-style .ensures)) (c .before .before .put-date .ensures)
+    let a = c .before .before .before .before .before .before .before .before .before .args in
+    day-put (a .style) (a .day) (c .before .before .before .before .before .year .given .0 .0) (c .before .before .before .before .before .year .given .0 .1 .0) (c .before .before .before .before .before .year .given .0 .1 .1 .0) (rw (c .before .before .before .before .before .year .given .1) at (c .before .before .before .before .before .before .before .date-in-style .ensures)) (c .before .before .put-date .ensures)
 
 returns-2 : tie.Need-returns-2
 returns-2 c =

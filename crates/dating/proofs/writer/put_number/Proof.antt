@@ -18,20 +18,23 @@ abbrev μ-loop : tie.MeasureT-loop
 
 add-end : tie.Need-add-end Inv-loop μ-loop
 add-end c =
-    let l = field-length (c .before .before .args .number) (c .before .before .args .behind) in
-    omega (arith, c .digits-of .ensures, (c .before .before .pre))
+    let a = c .before .before .args in
+    let l = field-length (a .number) (a .behind) in
+    omega (arith, c .digits-of .ensures, c .before .before .pre)
 
 slice-write-buffer : tie.Need-slice-write-buffer Inv-loop μ-loop
 slice-write-buffer c =
-    let l = field-length (c .before .before .args .number) (c .before .before .args .behind) in
-    omega (arith, c .digits-of .ensures, (c .before .before .pre))
+    let a = c .before .before .args in
+    let l = field-length (a .number) (a .behind) in
+    omega (arith, c .digits-of .ensures, c .before .before .pre)
 
 loop-holds : tie.Need-loop-holds Inv-loop μ-loop
 loop-holds c =
-    let s = c .before .before .args .buffer .now in
-    let end = c .before .before .args .at + c .digits-of .result in
-    let l = field-length (c .before .before .args .number) (c .before .before .args .behind) in
-    (omega arith, omega (arith, c .digits-of .ensures), rw (length-set s end (c .before .before .args .behind)) (omega (arith, c .digits-of .ensures, (c .before .before .pre))), refl, refl)
+    let a = c .before .before .args in
+    let s = a .buffer .now in
+    let end = a .at + c .digits-of .result in
+    let l = field-length (a .number) (a .behind) in
+    (omega arith, omega (arith, c .digits-of .ensures), rw (length-set s end (a .behind)) (omega (arith, c .digits-of .ensures, c .before .before .pre)), refl, refl)
 
 sub-i : tie.Need-sub-i Inv-loop μ-loop
 sub-i c =
@@ -46,10 +49,11 @@ loop-less c = omega (arith, c .loop-test .taken)
 
 loop-again : tie.Need-loop-again Inv-loop μ-loop
 loop-again c =
-    let inv = c .before .loop .inv in
-    let n = c .before .loop .rest in
-    let s = c .before .loop .buffer in
-    let i = c .before .loop .i in
+    let l = c .before .loop in
+    let inv = l .inv in
+    let n = l .rest in
+    let s = l .buffer in
+    let i = l .i in
     let high : n ≤ 18446744073709551616 = omega (arith, inv .0, c .before .before .before .before .fits .number) in
     let more = more-length n (c .loop-test .taken) high in
     let same = length-set s (i - 1) (48 + n % 10) in (
@@ -65,22 +69,26 @@ slice-write-buffer-3 c = omega (arith, c .before .loop .inv)
 
 add-result : tie.Need-add-result Inv-loop μ-loop
 add-result c =
-    let l = field-length (c .before .before .before .before .args .number) (c .before .before .before .before .args .behind) in
-    omega (arith, c .before .before .digits-of .ensures, (c .before .before .before .before .pre))
+    let a = c .before .before .before .before .args in
+    let l = field-length (a .number) (a .behind) in
+    omega (arith, c .before .before .digits-of .ensures, c .before .before .before .before .pre)
 
 same-length : tie.Need-same-length Inv-loop μ-loop
 same-length c =
-    length-set (c .before .loop .buffer) (c .before .before .before .before .args .at) (48 + c .before .loop .rest) ∙ c .before .loop .inv .3 ∙ length-set (c .before .before .before .before .args .buffer .now) (c .before .before .before .before .args .at + c .before .before .digits-of .result) (c .before .before .before .before .args .behind)
+    let a = c .before .before .before .before .args in
+    let l = c .before .loop in
+    length-set (l .buffer) (a .at) (48 + l .rest) ∙ l .inv .3 ∙ length-set (a .buffer .now) (a .at + c .before .before .digits-of .result) (a .behind)
 
 returns : tie.Need-returns Inv-loop μ-loop
 returns c =
-    let l = field-length (c .before .before .before .before .args .number) (c .before .before .before .before .args .behind) in
+    let a = c .before .before .before .before .args in
+    let l = field-length (a .number) (a .behind) in
     record {
       behind = omega (arith, c .before .before .digits-of .ensures);
       bytes =
-          first-digit (c .before .loop .buffer) (c .before .before .before .before .args .at) (c .before .loop .rest) (omega (arith, c .loop-test .left))
+          first-digit (c .before .loop .buffer) (a .at) (c .before .loop .rest) (omega (arith, c .loop-test .left))
           ∙ c .before .loop .inv .4
-          ∙ rw (c .before .before .digits-of .ensures) (sets-last (numeral (c .before .before .before .before .args .number)) (c .before .before .before .before .args .buffer .now) (c .before .before .before .before .args .at) (c .before .before .before .before .args .behind));
+          ∙ rw (c .before .before .digits-of .ensures) (sets-last (numeral (a .number)) (a .buffer .now) (a .at) (a .behind));
     }
 
 pub put-number-spec : {M : Type 1} → statement M

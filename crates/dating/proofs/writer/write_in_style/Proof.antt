@@ -6,19 +6,24 @@ use Rattle.dating.proofs.writer.write_in_style.Statement.{statement}
 use Rattle.dating.proofs.writer.write_in_style.Tie as tie
 
 returns : tie.Need-returns
-returns c = too-short (c .before .before .args .style) (c .before .before .args .day) (c .before .before .args .buffer .now) (c .if1 .taken)
+returns c =
+    let a = c .before .before .args in
+    too-short (a .style) (a .day) (a .buffer .now) (c .if1 .taken)
 
 put-day-requires : tie.Need-put-day-requires
 put-day-requires c κs =
-    (omega (arith, c .before .before .before .before .if1 .left), in-span (c .before .before .before .before .before .before .args .style) (c .before .before .before .before .before .before .args .day) _ (sym (c .before .before .before .day-within .ensures) ∙ c .before .enum-told .given .1))
+    let a = c .before .before .before .before .before .before .args in
+    (omega (arith, c .before .before .before .before .if1 .left), in-span (a .style) (a .day) _ (sym (c .before .before .before .day-within .ensures) ∙ c .before .enum-told .given .1))
 
 returns-2 : tie.Need-returns-2
 returns-2 c =
-    written (c .before .before .before .before .before .before .before .before .before .args .style) (c .before .before .before .before .before .before .before .before .before .args .day) (c .before .before .before .before .before .before .before .before .before .args .buffer .now) (c .before .before .before .before .before .before .before .if1 .left) _ _ (in-span (c .before .before .before .before .before .before .before .before .before .args .style) (c .before .before .before .before .before .before .before .before .before .args .day) _ (sym (c .before .before .before .before .before .before .day-within .ensures) ∙ c .before .before .before .before .enum-told .given .1)) (c .before .before .put-day .ensures)
+    let a = c .before .before .before .before .before .before .before .before .before .args in
+    written (a .style) (a .day) (a .buffer .now) (c .before .before .before .before .before .before .before .if1 .left) _ _ (in-span (a .style) (a .day) _ (sym (c .before .before .before .before .before .before .day-within .ensures) ∙ c .before .before .before .before .enum-told .given .1)) (c .before .before .put-day .ensures)
 
 returns-3 : tie.Need-returns-3
 returns-3 c =
-    outside (c .before .before .before .before .before .before .args .style) (c .before .before .before .before .before .before .args .day) (c .before .before .before .before .before .before .args .buffer .now) (c .before .before .before .before .if1 .left) _ (sym (c .before .before .before .day-within .ensures) ∙ c .before .refusal .given .1)
+    let a = c .before .before .before .before .before .before .args in
+    outside (a .style) (a .day) (a .buffer .now) (c .before .before .before .before .if1 .left) _ (sym (c .before .before .before .day-within .ensures) ∙ c .before .refusal .given .1)
 
 pub write-in-style-spec : {M : Type 1} → statement M
 write-in-style-spec =
