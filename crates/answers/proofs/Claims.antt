@@ -1,17 +1,36 @@
 -- What holds of a run beyond the contracts of its calls.
-use mathlib.Core.List.{List, []}
+use mathlib.Core.Bool.{false}
+use mathlib.Core.List.{List, [], _++_}
+use mathlib.Core.Logic.{_↔_}
 use mathlib.Core.Path.{_≡_, refl}
 use Prim.Native.Nat.{ℕ}
+use lib.ListN.{take}
+use Rattle.answers.proofs.block.Laws.{fed, Lack}
 use Rattle.answers.proofs.block.Laws as laws
 use Rattle.words.specs.Text.{has}
-use Rattle.answers.specs.Block.{AnswersBlock, AnswersLast, joined, Run}
-use Rattle.answers.specs.Lines.{lastLine, linesOf, IsOutput}
+use Rattle.dating.specs.Answer.{lineFeed}
+use Rattle.answers.specs.Block.{kept, AnswersBlock, AnswersLast, joined, Run}
+use Rattle.answers.specs.Lines.{endedLines, openLine, lastLine, linesOf, Answers, IsOutput}
 use Rattle.answers.specs.declared.block.Progress.{Progress}
 
--- However an input is cut into blocks, what is written for them is the output for the whole.
-pub whole-run : (blocks : List (List ℕ)) (t : List ℕ) → Run [] blocks t → IsOutput (joined blocks) t
+-- The lines of an input, each with its line feed, and the bytes behind the last are the input, and no line has a line feed.
+pub lines-back : (s : List ℕ) → (fed (endedLines [] s) ++ openLine [] s ≡ s) × (Lack (endedLines [] s) × (has lineFeed (openLine [] s) ≡ false))
 unfolding has
-whole-run blocks t h = laws.run-on [] blocks t refl h
+lines-back s = (laws.lines-back [] s, (laws.lines-lack [] s refl, laws.open-lacks [] s refl))
+
+-- However an input is cut into blocks, what is written for them is the output for the whole, and no other is.
+pub whole-run : (blocks : List (List ℕ)) (t : List ℕ) → Run [] blocks t ↔ IsOutput (joined blocks) t
+unfolding has
+whole-run blocks t = (laws.run-on [] blocks t refl, laws.run-back [] blocks t refl)
+
+-- A block's call is a step of the run: where the buffer holds what is kept, k, and the block b behind it, the bytes written answer the lines that end there, and what is kept next stands at the buffer's start.
+pub block-step : (k b s m n o p : List ℕ) (r : Progress) → s ≡ k ++ b → AnswersBlock s m n o p r
+    → Answers (endedLines [] (k ++ b)) (take (r .written) p) × (take (r .kept) n ≡ kept (openLine [] (k ++ b)))
+block-step k b s m n o p r e h = laws.block-step k b s m n o p r e h
+
+-- And the call at the end of the input is the last.
+pub last-step : (k o p : List ℕ) (n : ℕ) → AnswersLast k o p n → Answers (lastLine k) (take n p)
+last-step k o p n h = laws.last-step k o p n h
 
 -- An input has one output.
 pub one-output : (s t u : List ℕ) → IsOutput s t → IsOutput s u → t ≡ u

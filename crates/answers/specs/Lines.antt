@@ -6,12 +6,12 @@ use Prim.Native.Nat.{ℕ}
 use lib.Dec.{eqb}
 use Rattle.dating.specs.Answer.{lineFeed, IsAnswer}
 
--- the lines that a line feed ends in the bytes s, where the bytes p of the first stand before them
+-- the lines that the line feeds in s end; p are the bytes of the first that stand before s
 unfoldable pub endedLines : List ℕ → List ℕ → List (List ℕ)
 endedLines p [] = []
 endedLines p (c ∷ s) = cond (eqb c lineFeed) (p ∷ endedLines [] s) (endedLines (p ++ c ∷ []) s)
 
--- the bytes behind the last line feed
+-- the bytes behind the last line feed, or all of p and s where there is none
 unfoldable pub openLine : List ℕ → List ℕ → List ℕ
 openLine p [] = p
 openLine p (c ∷ s) = cond (eqb c lineFeed) (openLine [] s) (openLine (p ++ c ∷ []) s)

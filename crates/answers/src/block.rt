@@ -10,8 +10,8 @@ ghost use Rattle.answers.specs.Steps.{AnswersEnded};
 // The bytes of the buffer for input.
 pub const INPUT: usize = 16000;
 
-// The bytes of the buffer for output. No answer has more than four times the bytes of its line with
-// the line feed, and the longest has 25.
+// The bytes of the buffer for output: enough, since no answer has more than four times the bytes of
+// its line with the line feed, and put_answer wants 25 free.
 pub const OUTPUT: usize = 65536;
 
 // How many bytes are written to the output, and how many are kept of the line that is still open.

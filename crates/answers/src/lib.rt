@@ -1,3 +1,3 @@
-// The answers to an input that comes in blocks of any length. No public function has a `requires`,
+// The answers to an input of any length, which comes in blocks. No public function has a `requires`,
 // and the contract of each is a relation that allows one answer only.
 pub mod block;

@@ -33,7 +33,10 @@ one-in : (t : StyleAnswer) (n : ℕ) (r r′ : DateAnswer) → inStyle (λ x. r 
 one-in (Known s) n r r′ h h′ = laws.one-answer s n r r′ h h′
 one-in (NoStyle x) n r r′ h h′ = h ∙ sym h′
 
--- Any two answers that day to date may give are equal.
+-- Any two answers that day to date may give are equal, in a style and by its number.
+pub one-answer-in-style : (s : Style) (n : ℕ) (r r′ : DateAnswer) → IsDateInStyle s n r → IsDateInStyle s n r′ → r ≡ r′
+one-answer-in-style s n r r′ h h′ = laws.one-answer s n r r′ h h′
+
 pub one-answer : (k n : ℕ) (r r′ : DateAnswer) → IsDateOfDay k n r → IsDateOfDay k n r′ → r ≡ r′
 one-answer k n r r′ h h′ = one-in (styleOf k) n r r′ h h′
 
@@ -80,6 +83,10 @@ span-ends = (refl, (refl, λ s. last s))
 pub same-day : dayOfDate (styleNumber Julian) 1582 10 5 ≡ dayOfDate (styleNumber Gregorian) 1582 10 15
 unfolding styleOf dayInYear served isDate within inSpan between dayNumber daysOfMonths newYear daysOfYears
 same-day = refl
+
+-- No day that date to day answers is below 1721424.
+pub day-range : (k n y m d : ℕ) → dayOfDate k y m d ≡ Day n → (1721424 ≤ n) × (n ≤ 5373557)
+day-range k n y m d e = laws.day-of-date-small k n y m d e
 
 -- A G year below 1582 is refused by 4, whatever the month and the day.
 pub early-year : (y m d : ℕ) → y < 1582 → dayOrRefusal (dayOfDate (styleNumber Gregorian) y m d) ≡ 4

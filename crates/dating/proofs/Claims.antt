@@ -15,6 +15,7 @@ use Rattle.dating.proofs.part.Laws as part-laws
 use Rattle.dating.proofs.phrase.Laws as phrase-laws
 use Rattle.dating.proofs.phrase.Laws.{later}
 use Rattle.dating.proofs.writer.Laws as writer-laws
+use Rattle.dating.proofs.writer.Laws.{WriteNumber}
 use Rattle.calendar.specs.Range.{between}
 use Rattle.calendar.specs.Span.{inSpan, within, dayOrRefusal}
 use Rattle.calendar.specs.Style.{styleNumber}
@@ -26,7 +27,7 @@ use Rattle.dating.specs.Answer.{IsAnswer, PutsAnswer}
 use Rattle.dating.specs.Line.{Line, spellLine, GoodLine, lineDay, LineTold, unfit, fit, IsDayOfLine, IsNumberOfLine}
 use Rattle.dating.specs.Part.{Part, IsPart, PartOf}
 use Rattle.dating.specs.Phrase.{Phrase, plain, wrapped, anchorOf, wrappersAct, phraseDay}
-use Rattle.dating.specs.Writer.{Writes}
+use Rattle.dating.specs.Writer.{bytesOrRefusal, WritesInStyle, Writes}
 use Rattle.calendar.specs.declared.refusal.Refusal.{Refusal}
 use Rattle.calendar.specs.declared.refusal.Refusal.the-variants.{Name, Length, Form, Year, Date, Span}
 use Rattle.calendar.specs.declared.span.DayAnswer.{DayAnswer}
@@ -158,6 +159,13 @@ refused-by-3 s = (forth, λ k. fit (k .0) (unproduced (k .1) refl))
 -- Any two results of the writer are one: the same answer, and the same bytes in the buffer.
 pub one-writing : (k n : ℕ) (before a b : List ℕ) (r q : WriteAnswer) → Writes before a r k n → Writes before b q k n → (r ≡ q) × (a ≡ b)
 one-writing k n before a b r q h g = writer-laws.one-writing k n before a b r q h g
+
+pub one-writing-in-style : (s : Style) (n : ℕ) (before a b : List ℕ) (r q : WriteAnswer) → WritesInStyle before a r s n → WritesInStyle before b q s n → (r ≡ q) × (a ≡ b)
+one-writing-in-style s n before a b r q h g = writer-laws.one-in-style before a b r q s n h g
+
+-- The writer's number is 1, 2 or 6, or the bytes that it wrote, 7 to 12.
+pub write-numbers : (k n : ℕ) (before after : List ℕ) (r : WriteAnswer) → Writes before after r k n → WriteNumber (bytesOrRefusal r)
+write-numbers k n before after r h = writer-laws.write-numbers before after r k n h
 
 -- Every day of a style's span is written where the buffer has 12 bytes, and the bytes written, read as a dating line, give the same day.
 pub read-back : (s : Style) (n : ℕ) (before after : List ℕ) (r : WriteAnswer) → 12 ≤ length before → inSpan s n ≡ true

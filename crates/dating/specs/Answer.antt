@@ -33,20 +33,24 @@ readingOf s (NoDay x) = refused x
 abbrev pub IsReading : List ℕ → Reading → Type 0
 IsReading = LineTold (λ l. readingOf (l .named .style) (lineDay l)) refused
 
--- "0, day number, weekday, date as the writer gives it", with w for the date
-abbrev pub datedText : ℕ → List ℕ → List ℕ
-datedText n w = numeral 0 ++ space ∷ (numeral n ++ space ∷ (numeral (weekday n) ++ space ∷ (w ++ lineFeed ∷ [])))
+-- a number and the byte c behind it
+abbrev pub field : ℕ → ℕ → List ℕ
+field n c = numeral n ++ c ∷ []
 
--- t tells a reading, "with one space between fields and a line feed at the end": the fields of a day, "or the refusal number alone"
+-- what stands before the date for the day n: "0, day number, weekday"
+abbrev pub dayFields : ℕ → List ℕ
+dayFields n = field 0 space ++ field n space ++ field (weekday n) space
+
+-- t tells a reading, "with one space between fields and a line feed at the end": "0, day number, weekday, date as the writer gives it in the line's style; or the refusal number alone"
 abbrev pub AnswerText : Reading → List ℕ → Type 0
-AnswerText (dated s n) t = (w : List ℕ) × (IsDateText s n w × (t ≡ datedText n w))
-AnswerText (refused x) t = t ≡ numeral (refusalNumber x) ++ lineFeed ∷ []
+AnswerText (dated s n) t = (w : List ℕ) × (IsDateText s n w × (t ≡ dayFields n ++ w ++ lineFeed ∷ []))
+AnswerText (refused x) t = t ≡ field (refusalNumber x) lineFeed
 
 -- t is the answer to the line s
 abbrev pub IsAnswer : List ℕ → List ℕ → Type 0
 IsAnswer s t = (r : Reading) × (IsReading s r × AnswerText r t)
 
--- the answer is put at the place i of a buffer, and its length told; where fewer than 25 bytes stand there nothing is put, and 0 told
+-- the answer is put at the place i of a buffer, and r is its length; where fewer bytes stand there than the longest answer has, which are 25, nothing is put, and r is 0
 abbrev pub PutsAnswer : List ℕ → ℕ → (before after : List ℕ) → ℕ → Type 0
 PutsAnswer s i before after r =
     unless (leb (i + 25) (length before)) ((r ≡ 0) × (after ≡ before))

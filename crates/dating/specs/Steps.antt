@@ -1,13 +1,10 @@
--- What the private functions of the reader answer. No public promise is stated by these.
+-- What the private functions of the reader and the writer answer. No public promise is stated by these.
 use mathlib.Core.List.{List, [], _∷_, _++_}
 use mathlib.Core.Path.{_≡_}
 use Prim.Native.Nat.{ℕ, _+_}
 use lib.ListN.{length}
 use lib.Seq.{sets}
 use Rattle.calendar.specs.Style.{styleLetter}
-use Rattle.calendar.specs.Weekday.{weekday}
-use Rattle.words.specs.Numeral.{numeral}
-use Rattle.words.specs.Text.{space}
 use Rattle.words.specs.Told.{Grammar}
 use Rattle.dating.specs.Anchor.{Anchor, spellAnchor, GoodAnchor}
 use Rattle.dating.specs.Answer.{Reading, AnswerText}
@@ -40,23 +37,15 @@ endings = record { Tree = Ended; Good = λ x. GoodYear (x .named); spell = λ x.
 abbrev pub endAt : Ended → Ending
 endAt x = At (length (x .front)) (x .named)
 
--- the bytes w are put at the place i of a buffer with room for them, and r is the place behind them
+-- the bytes w are put at the place i of a buffer, and r is the place behind them
 pub record Put (before : List ℕ) (i : ℕ) (w after : List ℕ) (r : ℕ) : Type 0 where
   pub behind : r ≡ i + length w
   pub bytes : after ≡ sets before i w
 
--- a number and the byte c behind it
-abbrev pub field : ℕ → ℕ → List ℕ
-field n c = numeral n ++ c ∷ []
-
--- what stands before the date in the answer of the day n: "0, day number, weekday"
-abbrev pub dayFields : ℕ → List ℕ
-dayFields n = field 0 space ++ field n space ++ field (weekday n) space
-
--- the date of the day n is put at the place i of a buffer with room for it
+-- the date of the day n is put at the place i of a buffer
 abbrev pub PutsDate : Style → ℕ → ℕ → (before after : List ℕ) → ℕ → Type 0
 PutsDate s n i before after r = (w : List ℕ) × (IsDateText s n w × Put before i w after r)
 
--- a text that tells the reading q is put at the place i of a buffer with room for it
+-- a text that tells the reading q is put at the place i of a buffer
 abbrev pub PutsReading : Reading → ℕ → (before after : List ℕ) → ℕ → Type 0
 PutsReading q i before after r = (t : List ℕ) × (AnswerText q t × Put before i t after r)

@@ -5,7 +5,7 @@ use Prim.Native.Nat.{ℕ}
 use lib.Dec.{leb}
 use lib.ListN.{length}
 use Rattle.calendar.specs.Date.{dayInYear}
-use Rattle.calendar.specs.Refusal.{unless}
+use Rattle.calendar.specs.Refusal.{refusalNumber, unless}
 use Rattle.calendar.specs.Span.{inSpan}
 use Rattle.calendar.specs.Style.{styleOf, inStyle}
 use Rattle.calendar.specs.Year.{named}
@@ -31,6 +31,11 @@ pub record IsDateText (s : Style) (n : ℕ) (w : List ℕ) : Type 0 where
   pub day : ℕ
   pub is-date : dayInYear (named s year) month day ≡ Day n
   pub text : w ≡ dateText (named s year) month day
+
+-- the one number of an answer: the number of bytes, or the refusal
+abbrev pub bytesOrRefusal : WriteAnswer → ℕ
+bytesOrRefusal (Bytes n) = n
+bytesOrRefusal (NoBytes x) = refusalNumber x
 
 -- a call that is lent a buffer answers r and leaves the buffer, which held the bytes before, with the bytes after
 module _ (before after : List ℕ) (r : WriteAnswer) where

@@ -15,8 +15,8 @@ ghost use mathlib.Core.Path.{_≡_};
 ghost use Prim.Native.Nat.{_+_, _≤_};
 ghost use lib.ListN.{length};
 ghost use Rattle.calendar.specs.Span.{inSpan};
-ghost use Rattle.dating.specs.Answer.{dated, refused, PutsAnswer};
-ghost use Rattle.dating.specs.Steps.{Put, dayFields, PutsReading};
+ghost use Rattle.dating.specs.Answer.{dated, refused, dayFields, PutsAnswer};
+ghost use Rattle.dating.specs.Steps.{Put, PutsReading};
 
 // Puts the answer that is a refusal's number at a place, and answers the place behind it.
 fn put_refused(buffer: &mut [u8], at: usize, refusal: Refusal) -> usize
@@ -48,8 +48,8 @@ fn put_dated(buffer: &mut [u8], at: usize, style: Style, day: u64) -> usize
     end + 1
 }
 
-// Puts the answer to a dating line at a place of a buffer, and answers its length, at most 25; where fewer bytes stand there nothing is
-// put, and 0 is answered.
+// Puts the answer to a dating line at a place of a buffer, and answers its length; where fewer than 25
+// bytes stand there, which the longest answer has, nothing is put, and 0 is answered.
 pub fn put_answer(line: &[u8], buffer: &mut [u8], at: usize) -> usize
     ensures { λ r. ⌜ PutsAnswer (now (line .entry)) at (now (buffer .entry)) (now (buffer .exit)) r ⌝ }
 {

@@ -15,7 +15,8 @@ ghost use Prim.Native.Nat.{_+_, _≤_};
 ghost use lib.ListN.{length};
 ghost use Rattle.calendar.specs.Span.{inSpan};
 ghost use Rattle.words.specs.Numeral.{numeral};
-ghost use Rattle.dating.specs.Steps.{Put, field, PutsDate};
+ghost use Rattle.dating.specs.Answer.{field};
+ghost use Rattle.dating.specs.Steps.{Put, PutsDate};
 ghost use Rattle.dating.specs.Writer.{dateText, WritesInStyle, Writes};
 
 // The number of bytes written, or why there are none.
@@ -85,7 +86,7 @@ pub(crate) fn put_day(buffer: &mut [u8], at: usize, style: Style, day: u64) -> u
     }
 }
 
-// Writes the date of a day of a style.
+// The writer in a style: refused by 2 or 6.
 pub fn write_in_style(style: Style, day: u64, buffer: &mut [u8]) -> WriteAnswer
     ensures { λ r. ⌜ WritesInStyle (now (buffer .entry)) (now (buffer .exit)) r style day ⌝ }
 {

@@ -15,7 +15,7 @@ unfoldable pub decimal : ℕ → ℕ → List ℕ
 decimal zero n = digit n ∷ []
 decimal (suc k) n = cond (ltb n 10) (digit n ∷ []) (decimal k (n / 10) ++ digit (n % 10) ∷ [])
 
--- the numeral of a number of up to twenty digits, as every 64-bit number is
+-- the numeral of a number of at most twenty digits, as 64-bit numbers are
 abbrev pub numeral : ℕ → List ℕ
 numeral n = decimal 19 n
 

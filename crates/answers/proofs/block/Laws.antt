@@ -1,16 +1,16 @@
 -- Lines byte by byte, and what is kept of one that is still open.
 use mathlib.Core.Bool.{Bool, true, false, _||_, cond}
 use mathlib.Core.List.{List, [], _∷_, _++_, append-nil, append-assoc}
-use mathlib.Core.Logic.{_⊎_, inl, inr}
-use mathlib.Core.Path.{_≡_, refl, sym, _∙_, ap, ap₂}
+use mathlib.Core.Logic.{_↔_, _⊎_, inl, inr}
+use mathlib.Core.Path.{subst, _≡_, refl, sym, _∙_, ap, ap₂}
 use Prim.Native.Nat.{min, ℕ, _+_, _*_, _-_, _≤_, zero, suc, _<_}
 use native.Mathlib.Decide.{decLt}
 use native.Mathlib.Numerals.{add-one}
 use native.Mathlib.Omega.{arith}
 use lib.Dec.{eqb}
 use lib.ListN.{length-take, set, drop, getD, length-drop, length, take, length-append}
-use lib.Seq.{take-add, drop-at, drop-cons, set-append-seam, append-snoc, getD-append-add, take-length, sets, length-sets, take-suc, getD-drop, length-take-le, take-all, take-append-le, take-take}
-use borrow.Author.Tests.{eq-eqb, ne-eqb, le-leb}
+use lib.Seq.{take-append-seam, take-add, drop-at, drop-cons, set-append-seam, append-snoc, getD-append-add, take-length, sets, length-sets, take-suc, getD-drop, length-take-le, take-all, take-append-le, take-take}
+use borrow.Author.Tests.{eqb-true, eq-eqb, ne-eqb, le-leb}
 use Rattle.words.proofs.text.Laws.{rest, no-false, has-append}
 use Rattle.dating.proofs.Claims.{one-text}
 use Rattle.dating.proofs.answer.Laws.{answer-length, overlong}
@@ -73,12 +73,51 @@ open-lacks p (c ∷ s) h = go (eqb c lineFeed) refl (open-lacks [] s refl) (λ k
     go true e f g = f
     go false e f g = g (has-append lineFeed p (c ∷ []) h (one-lacks lineFeed c e))
 
+-- ---- lines are the bytes between line feeds
+abbrev pub fed : List (List ℕ) → List ℕ
+fed [] = []
+fed (l ∷ ls) = l ++ lineFeed ∷ fed ls
+
+pub lines-back : (p s : List ℕ) → fed (endedLines p s) ++ openLine p s ≡ p ++ s
+unfolding endedLines openLine
+lines-back p [] = sym (append-nil p)
+lines-back p (c ∷ s) = go (eqb c lineFeed) refl (lines-back [] s) (lines-back (p ++ c ∷ []) s)
+  where
+    go : (b : Bool) → eqb c lineFeed ≡ b → fed (endedLines [] s) ++ openLine [] s ≡ s → fed (endedLines (p ++ c ∷ []) s) ++ openLine (p ++ c ∷ []) s ≡ (p ++ c ∷ []) ++ s
+        → fed (cond b (p ∷ endedLines [] s) (endedLines (p ++ c ∷ []) s)) ++ cond b (openLine [] s) (openLine (p ++ c ∷ []) s) ≡ p ++ c ∷ s
+    go true e f g =
+        append-assoc p (lineFeed ∷ fed (endedLines [] s)) (openLine [] s)
+        ∙ ap₂ (λ (x : ℕ) (l : List ℕ). p ++ x ∷ l) (sym (eqb-true c lineFeed e)) f
+    go false e f g = g ∙ append-assoc p (c ∷ []) s
+
+abbrev pub Lack : List (List ℕ) → Type 0
+Lack [] = Unit {0}
+Lack (l ∷ ls) = (has lineFeed l ≡ false) × Lack ls
+
+pub lines-lack : (p s : List ℕ) → has lineFeed p ≡ false → Lack (endedLines p s)
+unfolding endedLines has
+lines-lack p [] h = tt
+lines-lack p (c ∷ s) h = go (eqb c lineFeed) refl (lines-lack [] s refl) (λ k. lines-lack (p ++ c ∷ []) s k)
+  where
+    go : (b : Bool) → eqb c lineFeed ≡ b → Lack (endedLines [] s) → (has lineFeed (p ++ c ∷ []) ≡ false → Lack (endedLines (p ++ c ∷ []) s))
+        → Lack (cond b (p ∷ endedLines [] s) (endedLines (p ++ c ∷ []) s))
+    go true e f g = (h, f)
+    go false e f g = g (has-append lineFeed p (c ∷ []) h (one-lacks lineFeed c e))
+
 -- ---- answers one behind the other
 pub answers-append : (ls ms : List (List ℕ)) (t u : List ℕ) → Answers ls t → Answers ms u → Answers (ls ++ ms) (t ++ u)
 answers-append [] ms t u h k = rw h k
 answers-append (l ∷ ls) ms t u h k =
     let v = h .1 .0 in
     (h .0, (v ++ u, (h .1 .1 .0, (answers-append ls ms v u (h .1 .1 .1 .0) k, ap (λ (x : List ℕ). x ++ u) (h .1 .1 .1 .1) ∙ append-assoc (h .0) v u))))
+
+answers-split : (ls ms : List (List ℕ)) (t : List ℕ) → Answers (ls ++ ms) t → (a : List ℕ) × ((u : List ℕ) × (Answers ls a × (Answers ms u × (t ≡ a ++ u))))
+answers-split [] ms t h = ([], (t, (refl, (h, refl))))
+answers-split (l ∷ ls) ms t (x, (v, (told, (rest, e)))) =
+    let k = answers-split ls ms v rest in
+    let a = k .0 in
+    let u = k .1 .0 in
+    (x ++ a, (u, ((x, (a, (told, (k .1 .1 .0, refl)))), (k .1 .1 .1 .0, e ∙ ap (λ (y : List ℕ). x ++ y) (k .1 .1 .1 .1) ∙ sym (append-assoc x a u)))))
 
 pub one-output : (ls : List (List ℕ)) (t u : List ℕ) → Answers ls t → Answers ls u → t ≡ u
 one-output [] t u h k = h ∙ sym k
@@ -99,6 +138,11 @@ kept-alike p =
       | yes long ↦ let l = length-take-le 121 p long in inr (omega arith, long)
       | no short ↦ inl (take-all 121 p (omega arith))
     ]
+
+alike-back : (p q : List ℕ) → Alike p q → Alike q p
+unfolding Alike
+alike-back p q (inl e) = inl (sym e)
+alike-back p q (inr h) = inr (h .1, h .0)
 
 alike-on : (p q : List ℕ) (c : ℕ) → Alike p q → Alike (p ++ c ∷ []) (q ++ c ∷ [])
 unfolding Alike
@@ -124,9 +168,14 @@ alike-answers p q (c ∷ s) t k h = go (eqb c lineFeed) h (λ h. alike-answers (
     go true h f = (h .0, (h .1 .0, (alike-answer p q (h .0) k (h .1 .1 .0), h .1 .1 .1)))
     go false h f = f h
 
-kept-last : (p t : List ℕ) → Answers (lastLine (kept p)) t → Answers (lastLine p) t
-kept-last [] t h = h
-kept-last (c ∷ s) t h = (h .0, (h .1 .0, (alike-answer (kept (c ∷ s)) (c ∷ s) (h .0) (kept-alike (c ∷ s)) (h .1 .1 .0), h .1 .1 .1)))
+alike-last : (p q t : List ℕ) → Alike p q → Answers (p ∷ []) t → Answers (q ∷ []) t
+alike-last p q t k h = (h .0, (h .1 .0, (alike-answer p q (h .0) k (h .1 .1 .0), h .1 .1 .1)))
+
+kept-last : (p t : List ℕ) → Answers (lastLine (kept p)) t ↔ Answers (lastLine p) t
+kept-last [] t = (λ h. h, λ h. h)
+kept-last (c ∷ s) t =
+    let k = kept-alike (c ∷ s) in
+    (alike-last (kept (c ∷ s)) (c ∷ s) t k, alike-last (c ∷ s) (kept (c ∷ s)) t (alike-back (kept (c ∷ s)) (c ∷ s) k))
 
 kept-on : (p : List ℕ) (c : ℕ) → kept (kept p ++ c ∷ []) ≡ kept (p ++ c ∷ [])
 kept-on p c =
@@ -154,20 +203,44 @@ kept-lacks c (suc n) [] h = refl
 kept-lacks c (suc n) (x ∷ s) h = let no = neither (eqb x c) h in rw (no .0) (kept-lacks c n s (no .1))
 
 -- ---- block by block
--- the open line o needs no more than what is kept of it
+-- what is kept of the open line o serves for it
+module _ (o b : List ℕ) (lacks : has lineFeed o ≡ false) where
+  whole : (endedLines [] (kept o) ≡ []) × (openLine [] (kept o) ≡ kept o)
+  whole = open-whole [] (kept o) (kept-lacks lineFeed 121 o lacks)
+
+  kept-lines : endedLines [] (kept o ++ b) ≡ endedLines (kept o) b
+  kept-lines = ended-append [] (kept o) b ∙ rw (whole .0, whole .1)
+
+  kept-next : kept (openLine [] (kept o ++ b)) ≡ kept (openLine o b)
+  kept-next = ap kept (rw (whole .1) at (open-append [] (kept o) b)) ∙ kept-open o b
+
+  -- the lines of a block and of those behind it
+  parted : (rest : List ℕ) → endedLines o (b ++ rest) ++ lastLine (openLine o (b ++ rest))
+      ≡ endedLines o b ++ (endedLines (openLine o b) rest ++ lastLine (openLine (openLine o b) rest))
+  parted rest =
+      rw (ended-append o b rest, open-append o b rest)
+      (append-assoc (endedLines o b) (endedLines (openLine o b) rest) (lastLine (openLine (openLine o b) rest)))
+
 pub run-on : (o : List ℕ) (bs : List (List ℕ)) (t : List ℕ) → has lineFeed o ≡ false → Run (kept o) bs t
     → Answers (endedLines o (joined bs) ++ lastLine (openLine o (joined bs))) t
 unfolding endedLines openLine
-run-on o [] t lacks h = kept-last o t h
+run-on o [] t lacks h = kept-last o t .0 h
 run-on o (b ∷ bs) t lacks (a, (u, (first, (rest, e)))) =
-    let whole = open-whole [] (kept o) (kept-lacks lineFeed 121 o lacks) in
-    let lines : endedLines [] (kept o ++ b) ≡ endedLines (kept o) b = ended-append [] (kept o) b ∙ rw (whole .0, whole .1) in
-    let opens : openLine [] (kept o ++ b) ≡ openLine (kept o) b = open-append [] (kept o) b ∙ rw (whole .1) in
-    let next : Run (kept (openLine o b)) bs u = rw (opens, kept-open o b) at rest in
-    let here = alike-answers (kept o) o b a (kept-alike o) (rw lines at first) in
-    let there = run-on (openLine o b) bs u (open-lacks o b lacks) next in
-    rw (e, ended-append o b (joined bs), open-append o b (joined bs), append-assoc (endedLines o b) (endedLines (openLine o b) (joined bs)) (lastLine (openLine (openLine o b) (joined bs))))
-    (answers-append (endedLines o b) (endedLines (openLine o b) (joined bs) ++ lastLine (openLine (openLine o b) (joined bs))) a u here there)
+    let o′ = openLine o b in
+    let here = alike-answers (kept o) o b a (kept-alike o) (rw (kept-lines o b lacks) at first) in
+    let there = run-on o′ bs u (open-lacks o b lacks) (rw (kept-next o b lacks) at rest) in
+    rw (e, parted o b lacks (joined bs)) (answers-append (endedLines o b) (endedLines o′ (joined bs) ++ lastLine (openLine o′ (joined bs))) a u here there)
+
+pub run-back : (o : List ℕ) (bs : List (List ℕ)) (t : List ℕ) → has lineFeed o ≡ false
+    → Answers (endedLines o (joined bs) ++ lastLine (openLine o (joined bs))) t → Run (kept o) bs t
+unfolding endedLines openLine
+run-back o [] t lacks h = kept-last o t .1 h
+run-back o (b ∷ bs) t lacks h =
+    let o′ = openLine o b in
+    let k = answers-split (endedLines o b) (endedLines o′ (joined bs) ++ lastLine (openLine o′ (joined bs))) t (rw (parted o b lacks (joined bs)) at h) in
+    let here = alike-answers o (kept o) b (k .0) (alike-back (kept o) o (kept-alike o)) (k .1 .1 .0) in
+    let there = run-back o′ bs (k .1 .0) (open-lacks o b lacks) (k .1 .1 .1 .0) in
+    (k .0, (k .1 .0, (rw (kept-lines o b lacks) here, (rw (kept-next o b lacks) there, k .1 .1 .1 .1))))
 
 -- ---- one more byte
 ended-byte : (p : List ℕ) (c : ℕ) (b : Bool) → eqb c lineFeed ≡ b → (endedLines p (c ∷ []) ≡ cond b (p ∷ []) []) × (openLine p (c ∷ []) ≡ cond b [] (p ++ c ∷ []))
@@ -401,3 +474,19 @@ pub kept-length : {s b m o p : List ℕ} {r : Progress} → AnswersBlock s b m o
 kept-length {s} {b} h room =
     let few = length-take 121 (openLine [] s) in
     (ap length (h .buffer) ∙ over-length (kept (openLine [] s)) b (omega arith), omega (arith, h .keeps))
+
+-- ---- what a call leaves in its buffers is a step of the run
+written-text : {ls : List (List ℕ)} {o p : List ℕ} {n : ℕ} → Written ls o p n → Answers ls (take n p)
+written-text {ls} {o} {p} {n} h =
+    let text : take n p ≡ h .text = rw (h .count, h .bytes) (take-append-seam (h .text) (drop (length (h .text)) o)) in
+    subst (Answers ls) (sym text) (h .answers)
+
+pub block-step : (k b s m n o p : List ℕ) (r : Progress) → s ≡ k ++ b → AnswersBlock s m n o p r
+    → Answers (endedLines [] (k ++ b)) (take (r .written) p) × (take (r .kept) n ≡ kept (openLine [] (k ++ b)))
+block-step k b s m n o p r e h =
+    let w = kept (openLine [] s) in
+    let left : take (r .kept) n ≡ w = rw (h .keeps, h .buffer) (take-append-seam w (drop (length w) m)) in
+    rw (← e) (written-text (h .output), left)
+
+pub last-step : (k o p : List ℕ) (n : ℕ) → AnswersLast k o p n → Answers (lastLine k) (take n p)
+last-step k o p n h = written-text h

@@ -1,6 +1,6 @@
 -- Readings of a line, and the text that tells one.
 use mathlib.Core.Bool.{Bool, true, false}
-use mathlib.Core.List.{List, [], _∷_, _++_, append-assoc}
+use mathlib.Core.List.{List, [], _∷_, _++_}
 use mathlib.Core.Logic.{_⊎_, inl, inr}
 use mathlib.Core.Path.{_≡_, refl, sym, _∙_, ap}
 use Prim.Native.Nat.{ℕ, _+_, _*_, _-_, _≤_, _<_}
@@ -23,9 +23,9 @@ use Rattle.calendar.specs.Span.{inSpan}
 use Rattle.calendar.specs.Weekday.{weekday, weekdayInStyle, weekdayOrZero}
 use Rattle.words.specs.Text.{space}
 use Rattle.words.specs.Told.{Told, produced, unproduced}
-use Rattle.dating.specs.Answer.{lineFeed, Reading, dated, refused, IsReading, datedText, AnswerText, IsAnswer, PutsAnswer}
+use Rattle.dating.specs.Answer.{lineFeed, Reading, dated, refused, IsReading, field, dayFields, AnswerText, IsAnswer, PutsAnswer}
 use Rattle.dating.specs.Line.{lineDay, unfit, fit, IsDayOfLine}
-use Rattle.dating.specs.Steps.{letters, Put, field, dayFields, PutsDate, PutsReading}
+use Rattle.dating.specs.Steps.{letters, Put, PutsDate, PutsReading}
 use Rattle.calendar.specs.declared.refusal.Refusal.{Refusal}
 use Rattle.calendar.specs.declared.refusal.Refusal.the-variants.{Name, Length, Form, Year, Date, Span}
 use Rattle.calendar.specs.declared.span.DayAnswer.the-variants.{Day, NoDay}
@@ -90,14 +90,11 @@ module _ (s : Style) (n : ℕ) (h : inSpan s n ≡ true) where
       let on-weekday = digit-field (weekday n) space (omega arith) in
       (omega arith, omega arith)
 
-text-fields : (n : ℕ) (w : List ℕ) → datedText n w ≡ dayFields n ++ w ++ lineFeed ∷ []
-text-fields n w = simp (append-assoc {A = ℕ})
-
 module _ (s : Style) (n : ℕ) {before c d : List ℕ} {i j k : ℕ} (p : Put before i (dayFields n) c j) (q : PutsDate s n j c d k) where
   pub dated-put : PutsReading (dated s n) i before (set d k lineFeed) (k + 1)
   dated-put =
       let w = q .0 in
-      (datedText n w, ((w, (q .1 .0, refl)), rw (text-fields n w) (put-on (put-on p (q .1 .1)) (put-byte d k lineFeed))))
+      (dayFields n ++ w ++ lineFeed ∷ [], ((w, (q .1 .0, refl)), put-on (put-on p (q .1 .1)) (put-byte d k lineFeed)))
 
   -- room for the line feed
   pub feed-room : inSpan s n ≡ true → i + 25 ≤ length before → k < length d
@@ -122,7 +119,7 @@ answered s i before q fits told p = rw fits (p .0, ((q, (told, p .1 .0)), (omega
 -- ---- how long an answer is
 dated-length : (s : Style) (n : ℕ) (t : List ℕ) → AnswerText (dated s n) t → length t ≤ 25
 dated-length s n t (w, (date, e)) =
-    let all = ap length (e ∙ text-fields n w) in
+    let all = ap length e in
     let front = length-append (dayFields n ++ w) (lineFeed ∷ []) in
     let both = length-append (dayFields n) w in
     let head = fields-length s n (span-of s n (date .year) (date .month) (date .day) (date .is-date) .0) .1 in
@@ -153,7 +150,7 @@ overlong s u t h k (q, (told, text)) =
 
 -- ---- one answer for each line
 pub one-text : (q : Reading) (t u : List ℕ) → AnswerText q t → AnswerText q u → t ≡ u
-one-text (dated s n) t u h k = h .1 .1 ∙ ap (datedText n) (writer-laws.one-text s n (h .0) (k .0) (h .1 .0) (k .1 .0)) ∙ sym (k .1 .1)
+one-text (dated s n) t u h k = h .1 .1 ∙ ap (λ (w : List ℕ). dayFields n ++ w ++ lineFeed ∷ []) (writer-laws.one-text s n (h .0) (k .0) (h .1 .0) (k .1 .0)) ∙ sym (k .1 .1)
 one-text (refused x) t u h k = h ∙ sym k
 
 pub one-answer : (s t u : List ℕ) → IsAnswer s t → IsAnswer s u → t ≡ u

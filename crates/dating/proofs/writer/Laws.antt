@@ -1,10 +1,11 @@
 -- Bytes put into a buffer one behind the other, and what dates are made of.
-use mathlib.Core.Bool.{Bool, true, false}
+use mathlib.Core.Bool.{Bool, true, false, cond}
 use mathlib.Core.List.{List, [], _∷_, _++_, append-assoc}
+use mathlib.Core.Logic.{_⊎_, inl, inr}
 use mathlib.Core.Path.{_≡_, refl, sym, _∙_, ap, subst}
 use Prim.Native.Nat.{ℕ, suc, _+_, _-_, _/_, _%_, _≤_, _<_}
 use native.Mathlib.Omega.{arith}
-use lib.Dec.{leb}
+use lib.Dec.{eqb, leb}
 use lib.ListN.{length, take, drop, set, length-append}
 use lib.Seq.{sets, length-sets, sets-eq, set-comm, take-append-seam}
 use borrow.Author.Tests.{le-leb, lt-leb}
@@ -12,7 +13,7 @@ use Rattle.calendar.proofs.date.Laws.{date-small, has-date, one-answer}
 use Rattle.calendar.proofs.range.Laws.{in-range}
 use Rattle.calendar.proofs.refusal.Laws.{passed}
 use Rattle.calendar.proofs.style.Laws.{by-number}
-use Rattle.words.proofs.numeral.Laws.{one-digit, more-digits, more-length, two-digits, four-digits}
+use Rattle.words.proofs.numeral.Laws.{one-digit, more-digits, more-length, numeral-length, two-digits, four-digits}
 use Rattle.words.proofs.text.Laws.{no-false}
 use Rattle.calendar.specs.Date.{dayInYear}
 use Rattle.calendar.specs.Refusal.{unless}
@@ -23,16 +24,18 @@ use Rattle.words.specs.Numeral.{digit, numeral}
 use Rattle.words.specs.Text.{space, point, over}
 use Rattle.words.specs.Told.{produced}
 use Rattle.dating.specs.Anchor.{date, spellAnchor, GoodAnchor, anchorDay}
+use Rattle.dating.specs.Answer.{field}
 use Rattle.dating.specs.Line.{spellLine, lineDay, fit, IsDayOfLine}
 use Rattle.dating.specs.Phrase.{plain, spellPhrase, GoodPhrase, anchorOf, wrappersAct, phraseDay}
-use Rattle.dating.specs.Steps.{Put, field, PutsDate}
-use Rattle.dating.specs.Writer.{dateText, IsDateText, Refuses, Puts, WritesInStyle, Writes}
+use Rattle.dating.specs.Steps.{Put, PutsDate}
+use Rattle.dating.specs.Writer.{dateText, IsDateText, bytesOrRefusal, Refuses, Puts, WritesInStyle, Writes}
 use Rattle.calendar.specs.declared.date.DateAnswer.{DateAnswer}
 use Rattle.calendar.specs.declared.date.DateAnswer.the-variants.{On, NoDate}
 use Rattle.calendar.specs.declared.refusal.Refusal.{Refusal}
-use Rattle.calendar.specs.declared.refusal.Refusal.the-variants.{Length, Span}
+use Rattle.calendar.specs.declared.refusal.Refusal.the-variants.{Name, Length, Span}
 use Rattle.calendar.specs.declared.span.DayAnswer.the-variants.{Day, NoDay}
 use Rattle.calendar.specs.declared.style.Style.{Style}
+use Rattle.calendar.specs.declared.style.Style.the-variants.{Julian, Gregorian}
 use Rattle.calendar.specs.declared.style.StyleAnswer.{StyleAnswer}
 use Rattle.calendar.specs.declared.style.StyleAnswer.the-variants.{Known, NoStyle}
 use Rattle.calendar.specs.declared.year.NamedYear.{NamedYear}
@@ -193,7 +196,7 @@ module _ (before a b : List ℕ) (r q : WriteAnswer) where
   one-refusal : (x : Refusal) → Refuses before a r x → Refuses before b q x → (r ≡ q) × (a ≡ b)
   one-refusal x h g = (h .0 ∙ sym (g .0), h .1 ∙ sym (g .1))
 
-  one-in-style : (s : Style) (n : ℕ) → WritesInStyle before a r s n → WritesInStyle before b q s n → (r ≡ q) × (a ≡ b)
+  pub one-in-style : (s : Style) (n : ℕ) → WritesInStyle before a r s n → WritesInStyle before b q s n → (r ≡ q) × (a ≡ b)
   one-in-style s n h g = go (leb 12 (length before)) (inSpan s n) h g
     where
       go : (c d : Bool) → unless c (Refuses before a r Length) (unless d (Refuses before a r Span) ((w : List ℕ) × (IsDateText s n w × Puts before a r w)))
@@ -220,3 +223,40 @@ read-back s n before after r room i h = go (rw (by-number s, le-leb 12 (length b
     go k =
         let written = ap (take (length (k .0))) (k .1 .1 .1) ∙ take-append-seam (k .0) (drop (length (k .0)) before) in
         (length (k .0), (k .1 .1 .0, subst (λ (x : List ℕ). IsDayOfLine x (Day n)) (sym written) (reads-back s n (k .0) (k .1 .0))))
+
+-- ---- the numbers of an answer
+seven-bytes : (s : Style) (n : ℕ) (w : List ℕ) → IsDateText s n w → 7 ≤ length w
+seven-bytes s n w t =
+    let all = date-length (named s (t .year)) (t .month) (t .day) in
+    let day = field-length (t .day) point in
+    let month = field-length (t .month) space in
+    let year = field-length (t .year) space in
+    rw (t .text) (omega (arith, numeral-length (t .day), numeral-length (t .month), numeral-length (t .year)))
+
+-- the numbers that the writer can answer: a refusal, or 7 to 12 bytes
+abbrev pub WriteNumber : ℕ → Type 0
+WriteNumber n = (n ≡ 1) ⊎ ((n ≡ 2) ⊎ ((n ≡ 6) ⊎ ((7 ≤ n) × (n ≤ 12))))
+
+module _ (before after : List ℕ) (r : WriteAnswer) where
+  number-in-style : (s : Style) (n : ℕ) → WritesInStyle before after r s n → WriteNumber (bytesOrRefusal r)
+  number-in-style s n h = go (leb 12 (length before)) (inSpan s n) h
+    where
+      go : (c d : Bool) → unless c (Refuses before after r Length) (unless d (Refuses before after r Span) ((w : List ℕ) × (IsDateText s n w × Puts before after r w)))
+          → WriteNumber (bytesOrRefusal r)
+      go false d h = inr (inl (ap bytesOrRefusal (h .0)))
+      go true false h = inr (inr (inl (ap bytesOrRefusal (h .0))))
+      go true true h =
+          let few = text-length s n (h .0) (h .1 .0) in
+          let some = seven-bytes s n (h .0) (h .1 .0) in
+          let e = ap bytesOrRefusal (h .1 .1 .0) in
+          inr (inr (inr (omega arith, omega arith)))
+
+  pub write-numbers : (k n : ℕ) → Writes before after r k n → WriteNumber (bytesOrRefusal r)
+  unfolding styleOf
+  write-numbers k n h = go (eqb k 1) (eqb k 2) h
+    where
+      go : (a b : Bool) → inStyle (Refuses before after r) (λ s. WritesInStyle before after r s n) (cond a (Known Julian) (cond b (Known Gregorian) (NoStyle Name)))
+          → WriteNumber (bytesOrRefusal r)
+      go true b h = number-in-style Julian n h
+      go false true h = number-in-style Gregorian n h
+      go false false h = inl (ap bytesOrRefusal (h .0))

@@ -34,8 +34,7 @@ loop-less c = omega (arith, c .before .loop-test .taken)
 loop-again : tie.Need-loop-again Inv-loop μ-loop
 loop-again c =
     let a = c .before .before .before .args in
-    let l = c .before .before .loop in
-    (
+    let l = c .before .before .loop in (
       omega (arith, c .before .loop-test .taken),
       length-set (l .bytes) (l .i) _ ∙ l .inv .1,
       rw (l .inv .2) (moved (a .bytes .now) (a .from) (l .i) (omega (arith, c .before .loop-test .taken, c .before .before .before .pre))),
