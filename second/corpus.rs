@@ -2,14 +2,12 @@
 //! make is printed once. The answers are no part of it.
 
 use crate::feasts::words;
-use crate::lines::WEEKDAYS;
+use crate::lines::{STYLES, WEEKDAYS};
 use std::collections::HashSet;
 use std::io::Write;
 use std::process::ExitCode;
 
 type Line = Vec<u8>;
-
-const STYLES: [&str; 2] = ["J", "G"];
 
 /// Years at the bounds of the styles, and years with an Easter that is easily missed.
 const YEARS: [i32; 16] = [1, 4, 1225, 1581, 1582, 1583, 1587, 1810, 1818, 1900, 1943, 1954, 1981, 2000, 2025, 9999];

@@ -2,13 +2,16 @@
 //! words before those are taken from the right in pairs, each pair a wrapper. So the innermost wrapper comes first, and no phrase
 //! is read inside another. A weekday is looked for day by day.
 
-use crate::days::{Answer, Date, day_of_date, in_span, style, weekday};
+use crate::days::{Answer, Date, date_of_day, day_of_date, in_span, style, weekday};
 use crate::feasts::{day_of_feast, words};
-use std::io::BufRead;
+use std::io::{BufRead, BufWriter, Write};
 use std::process::ExitCode;
 
 /// The most bytes that a dating line has.
 const LONGEST: usize = 120;
+
+/// The styles' letters, in the order of the styles' numbers.
+pub const STYLES: [&str; 2] = ["J", "G"];
 
 /// The weekdays' words, Monday's first.
 pub const WEEKDAYS: [&str; 7] = ["mon", "tue", "wed", "thu", "fri", "sat", "sun"];
@@ -85,7 +88,7 @@ fn parsed(line: &[u8]) -> Option<Parsed> {
             wrappers: before.rchunks(2).map(wrapper).collect::<Option<_>>()?,
             anchor: anchor(named)?,
             year: number(year, 9999)?,
-            style: place(letter, ["J", "G"].into_iter())?,
+            style: place(letter, STYLES.into_iter())?,
             part: (before.iter().map(|word| word.len() + 1).sum(), named.len()),
         }),
         _ => None,
@@ -117,22 +120,43 @@ fn day(parsed: &Parsed) -> Answer<i128> {
     parsed.wrappers.iter().try_fold(first, |day, wrapper| in_span(style, moved(day, wrapper)))
 }
 
-/// The day, and the start and length of the feast word or date.
-fn read(line: &[u8]) -> Answer<(i128, (usize, usize))> {
+/// The day, and what the line says.
+fn read(line: &[u8]) -> Answer<(i128, Parsed)> {
     if line.is_empty() || line.len() > LONGEST {
         return Err(2);
     }
     let parsed = parsed(line).ok_or(3)?;
-    Ok((day(&parsed)?, parsed.part))
+    Ok((day(&parsed)?, parsed))
 }
 
 /// Prints for each line the day or the refusal's number, and the part's start and length.
 pub fn answer(lines: impl BufRead) -> ExitCode {
     for line in lines.split(b'\n') {
         match read(&line.expect("the lines can be read")) {
-            Ok((day, (start, length))) => println!("{day} {start} {length}"),
+            Ok((day, Parsed { part: (start, length), .. })) => println!("{day} {start} {length}"),
             Err(refusal) => println!("{refusal} 0 0"),
         }
     }
+    ExitCode::SUCCESS
+}
+
+/// The day, its weekday, and its date in the line's style.
+fn told(line: &[u8]) -> Answer<String> {
+    let (day, Parsed { style, .. }) = read(line)?;
+    let Date { year, month, day: of_month } = date_of_day(style, day)?;
+    Ok(format!("{day} {} {of_month}.{month} {year} {}", weekday(day), STYLES[style as usize - 1]))
+}
+
+/// Prints for each line what the program must print: 0 and what is told, or the refusal's number alone.
+pub fn run(lines: impl BufRead) -> ExitCode {
+    let mut output = BufWriter::new(std::io::stdout().lock());
+    for line in lines.split(b'\n') {
+        let printed = match told(&line.expect("the lines can be read")) {
+            Ok(told) => writeln!(output, "0 {told}"),
+            Err(refusal) => writeln!(output, "{refusal}"),
+        };
+        printed.expect("the answers can be printed");
+    }
+    output.flush().expect("the answers can be printed");
     ExitCode::SUCCESS
 }

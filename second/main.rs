@@ -20,6 +20,7 @@ usage: second cases < LINES             compares lines 'CALL NUMBERS: ANSWER' wi
        second survey < LINES            compares the lines of all those calls
        second outside FILE.. < LINES    compares lines of such calls with printed tables
        second lines < LINES             prints 'NUMBER START LENGTH' for each dating line
+       second run < LINES               prints for each dating line what the program datelines must print
        second corpus                    prints dating lines, good and bad";
 
 fn main() -> ExitCode {
@@ -32,6 +33,7 @@ fn main() -> ExitCode {
         ["survey"] => years::compare(lines),
         ["outside", ref files @ ..] if !files.is_empty() => outside::compare(files, lines),
         ["lines"] => lines::answer(lines),
+        ["run"] => lines::run(lines),
         ["corpus"] => corpus::print(),
         _ => {
             eprintln!("{USAGE}");
