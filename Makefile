@@ -9,6 +9,7 @@ check: kit
 	tests/feasts
 	tests/second
 	tests/c/run
+	tests/program
 	tests/install
 	rt ci
 
