@@ -5,7 +5,8 @@ use mathlib.Core.Logic.{_↔_}
 use mathlib.Core.Path.{_≡_, refl}
 use Prim.Native.Nat.{ℕ}
 use lib.ListN.{take}
-use Rattle.answers.proofs.block.Laws.{fed, Lack}
+use Rattle.answers.proofs.Lines as lines
+use Rattle.answers.proofs.Lines.{fed, Lack}
 use Rattle.answers.proofs.block.Laws as laws
 use Rattle.words.specs.Text.{has}
 use Rattle.dating.specs.Answer.{lineFeed}
@@ -16,7 +17,7 @@ use Rattle.answers.specs.declared.block.Progress.{Progress}
 -- The lines of an input, each with its line feed, and the bytes behind the last are the input, and no line has a line feed.
 pub lines-back : (s : List ℕ) → (fed (endedLines [] s) ++ openLine [] s ≡ s) × (Lack (endedLines [] s) × (has lineFeed (openLine [] s) ≡ false))
 unfolding has
-lines-back s = (laws.lines-back [] s, (laws.lines-lack [] s refl, laws.open-lacks [] s refl))
+lines-back s = (lines.lines-back [] s, (lines.lines-lack [] s refl, lines.open-lacks [] s refl))
 
 -- However an input is cut into blocks, what is written for them is the output for the whole, and no other is.
 pub whole-run : (blocks : List (List ℕ)) (t : List ℕ) → Run [] blocks t ↔ IsOutput (joined blocks) t
@@ -34,7 +35,7 @@ last-step k o p n h = laws.last-step k o p n h
 
 -- An input has one output.
 pub one-output : (s t u : List ℕ) → IsOutput s t → IsOutput s u → t ≡ u
-one-output s t u h k = laws.one-output (linesOf s) t u h k
+one-output s t u h k = lines.one-output (linesOf s) t u h k
 
 -- Any two results of a block are one: the same numbers, and the same bytes in both buffers.
 pub one-block : (s b m n o p q : List ℕ) (r u : Progress) → AnswersBlock s b m o p r → AnswersBlock s b n o q u → (r ≡ u) × ((m ≡ n) × (p ≡ q))

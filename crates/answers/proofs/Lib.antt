@@ -1,2 +1,3 @@
 -- Claims is what a run promises beyond the contracts of its calls; the rest are steps to it.
+mod Lines
 pub mod Claims

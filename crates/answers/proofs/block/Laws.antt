@@ -1,130 +1,27 @@
--- Lines byte by byte, and what is kept of one that is still open.
-use mathlib.Core.Bool.{Bool, true, false, _||_, cond}
+-- What is kept of a line that is still open, a block byte by byte, and the calls.
+use mathlib.Core.Bool.{Bool, true, false, cond}
 use mathlib.Core.List.{List, [], _∷_, _++_, append-nil, append-assoc}
 use mathlib.Core.Logic.{_↔_, _⊎_, inl, inr}
-use mathlib.Core.Path.{subst, _≡_, refl, sym, _∙_, ap, ap₂}
-use Prim.Native.Nat.{min, ℕ, _+_, _*_, _-_, _≤_, zero, suc, _<_}
+use mathlib.Core.Path.{_≡_, refl, sym, _∙_, ap, subst}
+use Prim.Native.Nat.{ℕ, zero, suc, _+_, _-_, _*_, _<_, _≤_, min}
 use native.Mathlib.Decide.{decLt}
 use native.Mathlib.Numerals.{add-one}
 use native.Mathlib.Omega.{arith}
 use lib.Dec.{eqb}
-use lib.ListN.{length-take, set, drop, getD, length-drop, length, take, length-append}
-use lib.Seq.{take-append-seam, take-add, drop-at, drop-cons, set-append-seam, append-snoc, getD-append-add, take-length, sets, length-sets, take-suc, getD-drop, length-take-le, take-all, take-append-le, take-take}
-use borrow.Author.Tests.{eqb-true, eq-eqb, ne-eqb, le-leb}
-use Rattle.words.proofs.text.Laws.{rest, no-false, has-append}
-use Rattle.dating.proofs.Claims.{one-text}
+use lib.ListN.{length, take, drop, getD, set, length-append, length-take, length-drop}
+use lib.Seq.{length-take-le, take-all, take-length, take-suc, drop-cons, append-snoc, take-append-seam, take-append-le, getD-append-add, set-append-seam, getD-drop, take-take, take-add, drop-at, sets, length-sets}
+use borrow.Author.Tests.{eq-eqb, ne-eqb, le-leb}
+use Rattle.words.proofs.text.Laws.{rest}
 use Rattle.dating.proofs.answer.Laws.{answer-length, overlong}
 use Rattle.dating.proofs.writer.Laws.{sets-both, sets-start}
-use Rattle.words.specs.Text.{over, has}
-use Rattle.dating.specs.Answer.{PutsAnswer, IsAnswer, lineFeed}
-use Rattle.answers.specs.Block.{Written, joined, Run, AnswersBlock, AnswersLast, kept}
-use Rattle.answers.specs.Lines.{lastLine, endedLines, openLine, Answers}
+use Rattle.answers.proofs.Lines.{neither, ended-append, open-append, open-whole, open-lacks, answers-append, answers-split, one-output}
+use Rattle.words.specs.Text.{has, over}
+use Rattle.dating.specs.Answer.{lineFeed, IsAnswer, PutsAnswer}
+use Rattle.answers.specs.Block.{kept, Written, AnswersBlock, AnswersLast, joined, Run}
+use Rattle.answers.specs.Lines.{endedLines, openLine, lastLine, Answers}
 use Rattle.answers.specs.Steps.{AnswersEnded}
 use Rattle.answers.specs.declared.block.Ended.{Ended}
 use Rattle.answers.specs.declared.block.Progress.{Progress}
-
--- ---- lines of bytes one behind the other
-neither : (a : Bool) {b : Bool} → (a || b) ≡ false → (a ≡ false) × (b ≡ false)
-neither true h = no-false h
-neither false h = (refl, h)
-
-one-lacks : (c x : ℕ) → eqb x c ≡ false → has c (x ∷ []) ≡ false
-unfolding has
-one-lacks c x e = rw e
-
-pub ended-append : (p s t : List ℕ) → endedLines p (s ++ t) ≡ endedLines p s ++ endedLines (openLine p s) t
-unfolding endedLines openLine
-ended-append p [] t = refl
-ended-append p (c ∷ s) t = go (eqb c lineFeed) (ended-append [] s t) (ended-append (p ++ c ∷ []) s t)
-  where
-    go : (b : Bool) → endedLines [] (s ++ t) ≡ endedLines [] s ++ endedLines (openLine [] s) t
-        → endedLines (p ++ c ∷ []) (s ++ t) ≡ endedLines (p ++ c ∷ []) s ++ endedLines (openLine (p ++ c ∷ []) s) t
-        → cond b (p ∷ endedLines [] (s ++ t)) (endedLines (p ++ c ∷ []) (s ++ t))
-        ≡ cond b (p ∷ endedLines [] s) (endedLines (p ++ c ∷ []) s) ++ endedLines (cond b (openLine [] s) (openLine (p ++ c ∷ []) s)) t
-    go true e f = ap (λ (ls : List (List ℕ)). p ∷ ls) e
-    go false e f = f
-
-pub open-append : (p s t : List ℕ) → openLine p (s ++ t) ≡ openLine (openLine p s) t
-unfolding openLine
-open-append p [] t = refl
-open-append p (c ∷ s) t = go (eqb c lineFeed) (open-append [] s t) (open-append (p ++ c ∷ []) s t)
-  where
-    go : (b : Bool) → openLine [] (s ++ t) ≡ openLine (openLine [] s) t → openLine (p ++ c ∷ []) (s ++ t) ≡ openLine (openLine (p ++ c ∷ []) s) t
-        → cond b (openLine [] (s ++ t)) (openLine (p ++ c ∷ []) (s ++ t)) ≡ openLine (cond b (openLine [] s) (openLine (p ++ c ∷ []) s)) t
-    go true e f = e
-    go false e f = f
-
--- bytes without a line feed are the open line
-pub open-whole : (p s : List ℕ) → has lineFeed s ≡ false → (endedLines p s ≡ []) × (openLine p s ≡ p ++ s)
-unfolding endedLines openLine has
-open-whole p [] h = (refl, sym (append-nil p))
-open-whole p (c ∷ s) h =
-    let no = neither (eqb c lineFeed) h in
-    let rest = open-whole (p ++ c ∷ []) s (no .1) in
-    rw (no .0) (rest .0, rest .1 ∙ append-assoc p (c ∷ []) s)
-
-pub open-lacks : (p s : List ℕ) → has lineFeed p ≡ false → has lineFeed (openLine p s) ≡ false
-unfolding openLine has
-open-lacks p [] h = h
-open-lacks p (c ∷ s) h = go (eqb c lineFeed) refl (open-lacks [] s refl) (λ k. open-lacks (p ++ c ∷ []) s k)
-  where
-    go : (b : Bool) → eqb c lineFeed ≡ b → has lineFeed (openLine [] s) ≡ false → (has lineFeed (p ++ c ∷ []) ≡ false → has lineFeed (openLine (p ++ c ∷ []) s) ≡ false)
-        → has lineFeed (cond b (openLine [] s) (openLine (p ++ c ∷ []) s)) ≡ false
-    go true e f g = f
-    go false e f g = g (has-append lineFeed p (c ∷ []) h (one-lacks lineFeed c e))
-
--- ---- lines are the bytes between line feeds
-abbrev pub fed : List (List ℕ) → List ℕ
-fed [] = []
-fed (l ∷ ls) = l ++ lineFeed ∷ fed ls
-
-pub lines-back : (p s : List ℕ) → fed (endedLines p s) ++ openLine p s ≡ p ++ s
-unfolding endedLines openLine
-lines-back p [] = sym (append-nil p)
-lines-back p (c ∷ s) = go (eqb c lineFeed) refl (lines-back [] s) (lines-back (p ++ c ∷ []) s)
-  where
-    go : (b : Bool) → eqb c lineFeed ≡ b → fed (endedLines [] s) ++ openLine [] s ≡ s → fed (endedLines (p ++ c ∷ []) s) ++ openLine (p ++ c ∷ []) s ≡ (p ++ c ∷ []) ++ s
-        → fed (cond b (p ∷ endedLines [] s) (endedLines (p ++ c ∷ []) s)) ++ cond b (openLine [] s) (openLine (p ++ c ∷ []) s) ≡ p ++ c ∷ s
-    go true e f g =
-        append-assoc p (lineFeed ∷ fed (endedLines [] s)) (openLine [] s)
-        ∙ ap₂ (λ (x : ℕ) (l : List ℕ). p ++ x ∷ l) (sym (eqb-true c lineFeed e)) f
-    go false e f g = g ∙ append-assoc p (c ∷ []) s
-
-abbrev pub Lack : List (List ℕ) → Type 0
-Lack [] = Unit {0}
-Lack (l ∷ ls) = (has lineFeed l ≡ false) × Lack ls
-
-pub lines-lack : (p s : List ℕ) → has lineFeed p ≡ false → Lack (endedLines p s)
-unfolding endedLines has
-lines-lack p [] h = tt
-lines-lack p (c ∷ s) h = go (eqb c lineFeed) refl (lines-lack [] s refl) (λ k. lines-lack (p ++ c ∷ []) s k)
-  where
-    go : (b : Bool) → eqb c lineFeed ≡ b → Lack (endedLines [] s) → (has lineFeed (p ++ c ∷ []) ≡ false → Lack (endedLines (p ++ c ∷ []) s))
-        → Lack (cond b (p ∷ endedLines [] s) (endedLines (p ++ c ∷ []) s))
-    go true e f g = (h, f)
-    go false e f g = g (has-append lineFeed p (c ∷ []) h (one-lacks lineFeed c e))
-
--- ---- answers one behind the other
-pub answers-append : (ls ms : List (List ℕ)) (t u : List ℕ) → Answers ls t → Answers ms u → Answers (ls ++ ms) (t ++ u)
-answers-append [] ms t u h k = rw h k
-answers-append (l ∷ ls) ms t u h k =
-    let v = h .1 .0 in
-    (h .0, (v ++ u, (h .1 .1 .0, (answers-append ls ms v u (h .1 .1 .1 .0) k, ap (λ (x : List ℕ). x ++ u) (h .1 .1 .1 .1) ∙ append-assoc (h .0) v u))))
-
-answers-split : (ls ms : List (List ℕ)) (t : List ℕ) → Answers (ls ++ ms) t → (a : List ℕ) × ((u : List ℕ) × (Answers ls a × (Answers ms u × (t ≡ a ++ u))))
-answers-split [] ms t h = ([], (t, (refl, (h, refl))))
-answers-split (l ∷ ls) ms t (x, (v, (told, (rest, e)))) =
-    let k = answers-split ls ms v rest in
-    let a = k .0 in
-    let u = k .1 .0 in
-    (x ++ a, (u, ((x, (a, (told, (k .1 .1 .0, refl)))), (k .1 .1 .1 .0, e ∙ ap (λ (y : List ℕ). x ++ y) (k .1 .1 .1 .1) ∙ sym (append-assoc x a u)))))
-
-pub one-output : (ls : List (List ℕ)) (t u : List ℕ) → Answers ls t → Answers ls u → t ≡ u
-one-output [] t u h k = h ∙ sym k
-one-output (l ∷ ls) t u h k =
-    h .1 .1 .1 .1
-    ∙ ap₂ (λ (x y : List ℕ). x ++ y) (one-text l (h .0) (k .0) (h .1 .1 .0) (k .1 .1 .0)) (one-output ls (h .1 .0) (k .1 .0) (h .1 .1 .1 .0) (k .1 .1 .1 .0))
-    ∙ sym (k .1 .1 .1 .1)
 
 -- ---- what is kept of a line
 -- two lines are alike where they are one, or both too long
@@ -157,6 +54,9 @@ unfolding Alike
 alike-answer p q a (inl e) h = rw e at h
 alike-answer p q a (inr k) h = overlong p q a (k .0) (k .1) h
 
+alike-first : (p q : List ℕ) (ls : List (List ℕ)) (t : List ℕ) → Alike p q → Answers (p ∷ ls) t → Answers (q ∷ ls) t
+alike-first p q ls t k h = (h .0, (h .1 .0, (alike-answer p q (h .0) k (h .1 .1 .0), h .1 .1 .1)))
+
 alike-answers : (p q s t : List ℕ) → Alike p q → Answers (endedLines p s) t → Answers (endedLines q s) t
 unfolding endedLines
 alike-answers p q [] t k h = h
@@ -165,17 +65,14 @@ alike-answers p q (c ∷ s) t k h = go (eqb c lineFeed) h (λ h. alike-answers (
     go : (b : Bool) → Answers (cond b (p ∷ endedLines [] s) (endedLines (p ++ c ∷ []) s)) t
         → (Answers (endedLines (p ++ c ∷ []) s) t → Answers (endedLines (q ++ c ∷ []) s) t)
         → Answers (cond b (q ∷ endedLines [] s) (endedLines (q ++ c ∷ []) s)) t
-    go true h f = (h .0, (h .1 .0, (alike-answer p q (h .0) k (h .1 .1 .0), h .1 .1 .1)))
+    go true h f = alike-first p q (endedLines [] s) t k h
     go false h f = f h
-
-alike-last : (p q t : List ℕ) → Alike p q → Answers (p ∷ []) t → Answers (q ∷ []) t
-alike-last p q t k h = (h .0, (h .1 .0, (alike-answer p q (h .0) k (h .1 .1 .0), h .1 .1 .1)))
 
 kept-last : (p t : List ℕ) → Answers (lastLine (kept p)) t ↔ Answers (lastLine p) t
 kept-last [] t = (λ h. h, λ h. h)
 kept-last (c ∷ s) t =
     let k = kept-alike (c ∷ s) in
-    (alike-last (kept (c ∷ s)) (c ∷ s) t k, alike-last (c ∷ s) (kept (c ∷ s)) t (alike-back (kept (c ∷ s)) (c ∷ s) k))
+    (alike-first (kept (c ∷ s)) (c ∷ s) [] t k, alike-first (c ∷ s) (kept (c ∷ s)) [] t (alike-back (kept (c ∷ s)) (c ∷ s) k))
 
 kept-on : (p : List ℕ) (c : ℕ) → kept (kept p ++ c ∷ []) ≡ kept (p ++ c ∷ [])
 kept-on p c =
@@ -382,11 +279,11 @@ module _ (s : List ℕ) (from i : ℕ) (inside : from + i < length s) where
       let next = take-suc (drop from s) i 0 (omega arith) in
       rw (still, add-one, next, getD-drop from s i 0) (over-byte sofar s i (getD s (from + i) 0) size (omega arith))
 
-pub over-length : (w s : List ℕ) → length w ≤ length s → length (over w s) ≡ length s
+over-length : (w s : List ℕ) → length w ≤ length s → length (over w s) ≡ length s
 over-length w s h = let a = length-append w (drop (length w) s) in let b = length-drop (length w) s in omega arith
 
 -- ---- the bytes that a buffer is filled with
-pub filled-part : (n : ℕ) (s : List ℕ) → take (min n (length s)) s ≡ take n s
+filled-part : (n : ℕ) (s : List ℕ) → take (min n (length s)) s ≡ take n s
 filled-part n s =
     elim (decLt n (length s)) [
       | yes h ↦ let e : min n (length s) ≡ n = omega arith in rw e

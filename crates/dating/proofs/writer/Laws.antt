@@ -3,13 +3,13 @@ use mathlib.Core.Bool.{Bool, true, false, cond}
 use mathlib.Core.List.{List, [], _∷_, _++_, append-assoc}
 use mathlib.Core.Logic.{_⊎_, inl, inr}
 use mathlib.Core.Path.{_≡_, refl, sym, _∙_, ap, subst}
-use Prim.Native.Nat.{ℕ, suc, _+_, _-_, _/_, _%_, _≤_, _<_}
+use Prim.Native.Nat.{ℕ, suc, _+_, _-_, _/_, _%_, _<_, _≤_}
 use native.Mathlib.Omega.{arith}
 use lib.Dec.{eqb, leb}
 use lib.ListN.{length, take, drop, set, length-append}
-use lib.Seq.{sets, length-sets, sets-eq, set-comm, take-append-seam}
+use lib.Seq.{take-append-seam, sets, length-sets, sets-eq, set-comm}
 use borrow.Author.Tests.{le-leb, lt-leb}
-use Rattle.calendar.proofs.date.Laws.{date-small, has-date, one-answer}
+use Rattle.calendar.proofs.date.Laws.{date-small, one-answer}
 use Rattle.calendar.proofs.range.Laws.{in-range}
 use Rattle.calendar.proofs.refusal.Laws.{passed}
 use Rattle.calendar.proofs.style.Laws.{by-number}
@@ -94,7 +94,7 @@ module _ (t : NamedYear) (m d : ℕ) where
   abbrev letter : List ℕ
   letter = styleLetter (t .style) ∷ []
 
-  pub date-fields : dateText t m d ≡ field d point ++ field m space ++ field (t .year) space ++ letter
+  date-fields : dateText t m d ≡ field d point ++ field m space ++ field (t .year) space ++ letter
   date-fields = simp (append-assoc {A = ℕ})
 
   pub date-length : length (dateText t m d) ≡ length (field d point) + length (field m space) + length (field (t .year) space) + 1
@@ -166,11 +166,6 @@ module _ (s : Style) (n : ℕ) (before : List ℕ) where
         )
 
 -- ---- one text for each day, which reads back as the day
-pub has-text : (s : Style) (n : ℕ) → inSpan s n ≡ true → (w : List ℕ) × IsDateText s n w
-has-text s n i =
-    let h = has-date s n i in
-    (dateText (named s (h .0)) (h .1) (h .2), record { year = h .0; month = h .1; day = h .2; is-date = h .3; text = refl })
-
 pub one-text : (s : Style) (n : ℕ) (v w : List ℕ) → IsDateText s n v → IsDateText s n w → v ≡ w
 one-text s n v w p q = p .text ∙ ap text (one-answer s n (on p) (on q) (p .is-date) (q .is-date)) ∙ sym (q .text)
   where
@@ -181,7 +176,7 @@ one-text s n v w p q = p .text ∙ ap text (one-answer s n (on p) (on q) (p .is-
     text (On y m d) = dateText (named s y) m d
     text (NoDate x) = []
 
-pub reads-back : (s : Style) (n : ℕ) (w : List ℕ) → IsDateText s n w → IsDayOfLine w (Day n)
+reads-back : (s : Style) (n : ℕ) (w : List ℕ) → IsDateText s n w → IsDayOfLine w (Day n)
 unfolding spellLine spellPhrase spellAnchor GoodPhrase GoodAnchor lineDay phraseDay wrappersAct anchorOf anchorDay
 reads-back s n w t =
     let few = text-length s n w t in
