@@ -1,5 +1,5 @@
 .POSIX:
-.PHONY: check answers lib install uninstall kit
+.PHONY: check answers lib install uninstall prefix kit
 
 PREFIX = /usr/local
 
@@ -23,12 +23,16 @@ lib: kit
 	rt staticlib qashmelvit
 
 # Header, archive, pkg-config file, program and manual pages, below DESTDIR and PREFIX.
-install: lib
+install: prefix lib
 	rt check datelines
 	packaging/install '$(DESTDIR)' '$(PREFIX)'
 
 uninstall:
 	packaging/uninstall '$(DESTDIR)' '$(PREFIX)'
+
+# A bad PREFIX is told before anything is proved.
+prefix:
+	@packaging/prefix '$(PREFIX)'
 
 # The kit is the one that the project is proved with.
 kit:

@@ -2,11 +2,13 @@
 use mathlib.Core.Bool.{false}
 use mathlib.Core.List.{List, [], _++_}
 use mathlib.Core.Logic.{_↔_}
-use mathlib.Core.Path.{_≡_, refl}
+use mathlib.Core.Path.{_≡_, refl, sym, _∙_}
 use Prim.Native.Nat.{ℕ}
-use lib.ListN.{take}
+use lib.ListN.{length, take, drop}
+use lib.Seq.{take-append-seam}
 use Rattle.answers.proofs.Lines as lines
 use Rattle.answers.proofs.Lines.{fed, Lack}
+use Rattle.answers.proofs.block.Laws.{one-written, written-text}
 use Rattle.answers.proofs.block.Laws as laws
 use Rattle.words.specs.Text.{has}
 use Rattle.dating.specs.Answer.{lineFeed}
@@ -25,13 +27,15 @@ unfolding has
 whole-run blocks t = (laws.run-on [] blocks t refl, laws.run-back [] blocks t refl)
 
 -- A block's call is a step of the run: where the buffer holds what is kept, k, and the block b behind it, the bytes written answer the lines that end there, and what is kept next stands at the buffer's start.
-pub block-step : (k b s m n o p : List ℕ) (r : Progress) → s ≡ k ++ b → AnswersBlock s m n o p r
+pub block-step : (k b m n o p : List ℕ) (r : Progress) → AnswersBlock (k ++ b) m n o p r
     → Answers (endedLines [] (k ++ b)) (take (r .written) p) × (take (r .kept) n ≡ kept (openLine [] (k ++ b)))
-block-step k b s m n o p r e h = laws.block-step k b s m n o p r e h
+block-step k b m n o p r h =
+    let w = kept (openLine [] (k ++ b)) in
+    (written-text (h .output), rw (h .keeps, h .buffer) (take-append-seam w (drop (length w) m)))
 
 -- And the call at the end of the input is the last.
 pub last-step : (k o p : List ℕ) (n : ℕ) → AnswersLast k o p n → Answers (lastLine k) (take n p)
-last-step k o p n h = laws.last-step k o p n h
+last-step k o p n h = written-text h
 
 -- An input has one output.
 pub one-output : (s t u : List ℕ) → IsOutput s t → IsOutput s u → t ≡ u
@@ -39,8 +43,11 @@ one-output s t u h k = lines.one-output (linesOf s) t u h k
 
 -- Any two results of a block are one: the same numbers, and the same bytes in both buffers.
 pub one-block : (s b m n o p q : List ℕ) (r u : Progress) → AnswersBlock s b m o p r → AnswersBlock s b n o q u → (r ≡ u) × ((m ≡ n) × (p ≡ q))
-one-block s b m n o p q r u h k = laws.one-block s b m n o p q r u h k
+one-block s b m n o p q r u h k =
+    let output = one-written (endedLines [] s) o p q (r .written) (u .written) (h .output) (k .output) in
+    let keeps = h .keeps ∙ sym (k .keeps) in
+    (λ i. record { written = output .0 i; kept = keeps i }, (h .buffer ∙ sym (k .buffer), output .1))
 
 -- Any two results of the last line are one: the same number, and the same bytes in the buffer.
 pub one-last : (s o p q : List ℕ) (r u : ℕ) → AnswersLast s o p r → AnswersLast s o q u → (r ≡ u) × (p ≡ q)
-one-last s o p q r u h k = laws.one-written (lastLine s) o p q r u h k
+one-last s o p q r u h k = one-written (lastLine s) o p q r u h k

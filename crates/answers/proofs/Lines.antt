@@ -8,7 +8,7 @@ use borrow.Author.Tests.{eqb-true}
 use Rattle.words.proofs.text.Laws.{rest, no-false, has-append}
 use Rattle.dating.proofs.Claims.{one-text}
 use Rattle.words.specs.Text.{has}
-use Rattle.dating.specs.Answer.{lineFeed}
+use Rattle.dating.specs.Answer.{lineFeed, IsAnswer}
 use Rattle.answers.specs.Lines.{endedLines, openLine, Answers}
 
 -- ---- lines of bytes one behind the other
@@ -98,6 +98,9 @@ answers-append [] ms t u h k = rw h k
 answers-append (l ∷ ls) ms t u h k =
     let v = h .1 .0 in
     (h .0, (v ++ u, (h .1 .1 .0, (answers-append ls ms v u (h .1 .1 .1 .0) k, ap (λ (x : List ℕ). x ++ u) (h .1 .1 .1 .1) ∙ append-assoc (h .0) v u))))
+
+pub one-answered : (l t : List ℕ) → IsAnswer l t → Answers (l ∷ []) t
+one-answered l t told = (t, ([], (told, (refl, sym (append-nil t)))))
 
 pub answers-split : (ls ms : List (List ℕ)) (t : List ℕ) → Answers (ls ++ ms) t → (a : List ℕ) × ((u : List ℕ) × (Answers ls a × (Answers ms u × (t ≡ a ++ u))))
 answers-split [] ms t h = ([], (t, (refl, (h, refl))))

@@ -1,31 +1,32 @@
 -- What holds of the year sheet and the feasts beyond the contracts, for all years from 1 on in both styles.
 use mathlib.Core.Bool.{true, false}
-use mathlib.Core.Logic.{_↔_}
+use mathlib.Core.Logic.{_↔_, inl}
 use mathlib.Core.Path.{_≡_, refl, sym, _∙_}
 use Prim.Native.Nat.{ℕ, _+_, _≤_, _<_}
 use native.Mathlib.Omega.{arith}
 use lib.IntN.{ℤ, pos, _+ℤ_, _*ℤ_}
 use lib.ListN.{length}
-use Rattle.calendar.proofs.style.Laws.{by-number}
+use Rattle.calendar.proofs.style.Laws.{by-number, by-cases}
 use Rattle.church.proofs.column.Laws.{walked}
 use Rattle.church.proofs.easter.Laws as easter-laws
 use Rattle.church.proofs.epact.Laws as epact-laws
 use Rattle.church.proofs.feast.Laws as feast-laws
+use Rattle.church.proofs.feast.Laws.{FeastNumber, feast-number}
 use Rattle.church.proofs.letter.Laws as letter-laws
 use Rattle.church.proofs.sheet.Laws as sheet-laws
 use Rattle.calendar.specs.Date.{isDate, dayNumber}
 use Rattle.calendar.specs.Range.{between}
 use Rattle.calendar.specs.Span.{inSpan, dayOrRefusal}
-use Rattle.calendar.specs.Style.{styleNumber}
+use Rattle.calendar.specs.Style.{styleNumber, inStyle}
 use Rattle.calendar.specs.Weekday.{weekday, sunday}
 use Rattle.calendar.specs.Year.{named, leap}
 use Rattle.church.specs.Column.{stands, luna}
 use Rattle.church.specs.Easter.{limit, march, easter, key, hasEaster}
 use Rattle.church.specs.Epact.{golden, hundreds, gregorianSum, epact, arabic}
-use Rattle.church.specs.Feast.{feasts, adventSunday, feastOfYear}
+use Rattle.church.specs.Feast.{feasts, adventSunday, feastInYear, feastOfYear}
 use Rattle.church.specs.Letter.{letterOf, Part, first, second, inPart, SundayLetter}
 use Rattle.church.specs.Sheet.{IsSheetInYear, IsSheetOfYear}
-use Rattle.calendar.specs.declared.span.DayAnswer.the-variants.{Day}
+use Rattle.calendar.specs.declared.span.DayAnswer.the-variants.{Day, NoDay}
 use Rattle.calendar.specs.declared.style.Style.the-variants.{Gregorian}
 use Rattle.calendar.specs.declared.style.Style.{Style}
 use Rattle.calendar.specs.declared.year.NamedYear.{NamedYear}
@@ -107,8 +108,8 @@ pub feast-answered : (s : Style) (y f : ℕ) → hasEaster s y ≡ true → betw
 feast-answered s y f h e = rw by-number (feast-laws.feast-answered (named s y) f h e)
 
 -- The number of a feast's answer is 1, 4 or 6, or a day not below 1721424.
-pub feast-numbers : (k f y : ℕ) → feast-laws.FeastNumber (dayOrRefusal (feastOfYear k f y))
-feast-numbers k f y = feast-laws.feast-numbers k f y
+pub feast-numbers : (k f y : ℕ) → FeastNumber (dayOrRefusal (feastOfYear k f y))
+feast-numbers k f y = by-cases (λ x. FeastNumber (dayOrRefusal (inStyle NoDay (λ s. feastInYear (named s y) f) x))) (λ s. feast-number (named s y) f) (inl refl) k
 
 -- Advent is a Sunday from 27 November to 3 December, and the only one.
 pub advent-sunday : (s : Style) (y : ℕ)

@@ -1,38 +1,48 @@
--- What holds of the dating line beyond the contracts of its calls.
-use mathlib.Core.Bool.{true, false}
+-- What holds of the dating line, the writer and the answer as text beyond the contracts of their calls.
+use mathlib.Core.Bool.{true, false, Bool}
 use mathlib.Core.List.{List}
 use mathlib.Core.Logic.{_↔_, _⊎_, inl, inr}
-use mathlib.Core.Path.{_≡_, refl, sym, ap}
+use mathlib.Core.Path.{_≡_, refl, sym, ap, _∙_, subst}
 use Prim.Native.Nat.{ℕ, _+_, _≤_}
 use native.Mathlib.Omega.{arith}
+use lib.Dec.{leb}
 use lib.ListN.{length, take, drop}
+use lib.Seq.{sets, take-append-seam}
+use borrow.Author.Tests.{le-leb}
 use denote.Ref.{RefT, ptr, now}
+use Rattle.calendar.proofs.refusal.Laws.{no-day}
 use Rattle.calendar.proofs.span.Laws.{span-small}
+use Rattle.calendar.proofs.style.Laws.{by-number, by-cases}
 use Rattle.words.proofs.text.Laws.{no-false}
-use Rattle.dating.proofs.answer.Laws as answer-laws
+use Rattle.dating.proofs.anchor.Laws.{three-bytes}
+use Rattle.dating.proofs.answer.Laws.{reading-text}
 use Rattle.dating.proofs.line.Laws as line-laws
 use Rattle.dating.proofs.part.Laws as part-laws
+use Rattle.dating.proofs.part.Laws.{anchor-good}
 use Rattle.dating.proofs.phrase.Laws as phrase-laws
 use Rattle.dating.proofs.phrase.Laws.{later}
 use Rattle.dating.proofs.writer.Laws as writer-laws
-use Rattle.dating.proofs.writer.Laws.{WriteNumber}
+use Rattle.dating.proofs.writer.Laws.{reads-back, one-refusal, one-in-style, WriteNumber, number-in-style}
 use Rattle.calendar.specs.Range.{between}
+use Rattle.calendar.specs.Refusal.{unless}
 use Rattle.calendar.specs.Span.{inSpan, within, dayOrRefusal}
-use Rattle.calendar.specs.Style.{styleNumber}
+use Rattle.calendar.specs.Style.{styleOf, inStyle, styleNumber}
 use Rattle.calendar.specs.Year.{served}
 use Rattle.words.specs.Told.{produced, unproduced}
 use Rattle.dating.specs.Act.{moved, acted}
 use Rattle.dating.specs.Anchor.{anchorDay}
 use Rattle.dating.specs.Answer.{IsAnswer, PutsAnswer}
 use Rattle.dating.specs.Line.{Line, spellLine, GoodLine, lineDay, LineTold, unfit, fit, IsDayOfLine, IsNumberOfLine}
-use Rattle.dating.specs.Part.{Part, IsPart, PartOf}
+use Rattle.dating.specs.Part.{anchorPart, linePart, Part, IsPart, PartOf}
 use Rattle.dating.specs.Phrase.{Phrase, plain, wrapped, anchorOf, wrappersAct, phraseDay}
-use Rattle.dating.specs.Writer.{bytesOrRefusal, WritesInStyle, Writes}
+use Rattle.dating.specs.Writer.{IsDateText, Refuses, Puts, bytesOrRefusal, WritesInStyle, Writes}
 use Rattle.calendar.specs.declared.refusal.Refusal.{Refusal}
 use Rattle.calendar.specs.declared.refusal.Refusal.the-variants.{Name, Length, Form, Year, Date, Span}
 use Rattle.calendar.specs.declared.span.DayAnswer.{DayAnswer}
 use Rattle.calendar.specs.declared.span.DayAnswer.the-variants.{Day, NoDay}
 use Rattle.calendar.specs.declared.style.Style.{Style}
+use Rattle.calendar.specs.declared.style.StyleAnswer.{StyleAnswer}
+use Rattle.calendar.specs.declared.style.StyleAnswer.the-variants.{Known, NoStyle}
 use Rattle.calendar.specs.declared.year.NamedYear.{NamedYear}
 use Rattle.words.specs.declared.wrapper.Wrapper.{Wrapper}
 use Rattle.dating.specs.declared.writer.WriteAnswer.{WriteAnswer}
@@ -49,7 +59,11 @@ one-answer r q h k = line-laws.one-answer r q h k
 
 -- Any two parts that may be handed out are the same bytes at the same place.
 pub one-part : (x r q : RefT (List ℕ)) → PartOf x r → PartOf x q → (now r ≡ now q) × (ptr r ≡ ptr q)
-one-part x r q h k = part-laws.one-part x r q h k
+one-part x r q h k =
+    let same = one-answer (h .part) (k .part) (h .is-part) (k .is-part) in
+    let offsets = h .offset ∙ ap (λ (p : Part). p .start + ptr x .1) same ∙ sym (k .offset) in
+    let blocks = h .block ∙ sym (k .block) in
+    (h .contents ∙ ap (λ (p : Part). p .text) same ∙ sym (k .contents), λ i. (blocks i, offsets i))
 
 -- The part stands in the line where it is said to.
 pub part-stands : (s : List ℕ) (p : Part) → IsPart s p
@@ -58,11 +72,18 @@ part-stands s p h = part-laws.stands s p h
 
 -- The part of an accepted line is not empty.
 pub part-some : (s : List ℕ) (n : ℕ) (p : Part) → IsDayOfLine s (Day n) → IsPart s p → 1 ≤ length (p .text)
-part-some s n p h k = part-laws.some-bytes s n p h k
+unfolding linePart
+part-some s n p (unfit h m) part = no-day Length n (sym m)
+part-some s n p (fit h (unproduced none m)) part = no-day Form n (sym m)
+part-some s n p (fit h (produced l g e m)) part =
+    let same : p ≡ anchorPart (l .phrase) = one-answer p (anchorPart (l .phrase)) part (fit h (produced l g e (rw (← m)))) in
+    let some = three-bytes (anchorOf (l .phrase)) (anchor-good (l .phrase) (g .phrase)) in
+    rw same (omega arith)
 
 -- A wrapper acts on the day of the phrase behind it.
 pub wrapper-acts : (t : NamedYear) (w : Wrapper) (p : Phrase) → phraseDay t (wrapped w p) ≡ acted (t .style) w (phraseDay t p)
-wrapper-acts t w p = phrase-laws.wrapper-acts t w p
+unfolding phraseDay wrappersAct anchorOf
+wrapper-acts t w p = refl
 
 -- a phrase comes to the day n in the named year: its feast or date is a day, and every day on the way lies in the span
 unfoldable pub ComesTo : NamedYear → Phrase → ℕ → Type 0
@@ -158,24 +179,44 @@ refused-by-3 s = (forth, λ k. fit (k .0) (unproduced (k .1) refl))
 
 -- Any two results of the writer are one: the same answer, and the same bytes in the buffer.
 pub one-writing : (k n : ℕ) (before a b : List ℕ) (r q : WriteAnswer) → Writes before a r k n → Writes before b q k n → (r ≡ q) × (a ≡ b)
-one-writing k n before a b r q h g = writer-laws.one-writing k n before a b r q h g
+one-writing k n before a b r q h g = go (styleOf k) h g
+  where
+    go : (x : StyleAnswer) → inStyle (Refuses before a r) (λ s. WritesInStyle before a r s n) x → inStyle (Refuses before b q) (λ s. WritesInStyle before b q s n) x → (r ≡ q) × (a ≡ b)
+    go (Known s) h g = one-in-style before a b r q s n h g
+    go (NoStyle x) h g = one-refusal before a b r q x h g
 
 pub one-writing-in-style : (s : Style) (n : ℕ) (before a b : List ℕ) (r q : WriteAnswer) → WritesInStyle before a r s n → WritesInStyle before b q s n → (r ≡ q) × (a ≡ b)
 one-writing-in-style s n before a b r q h g = writer-laws.one-in-style before a b r q s n h g
 
 -- The writer's number is 1, 2 or 6, or the bytes that it wrote, 7 to 12.
 pub write-numbers : (k n : ℕ) (before after : List ℕ) (r : WriteAnswer) → Writes before after r k n → WriteNumber (bytesOrRefusal r)
-write-numbers k n before after r h = writer-laws.write-numbers before after r k n h
+write-numbers k n before after r h =
+    by-cases (λ x. inStyle (Refuses before after r) (λ s. WritesInStyle before after r s n) x → WriteNumber (bytesOrRefusal r))
+    (λ s h. number-in-style before after r s n h) (λ h. inl (ap bytesOrRefusal (h .0))) k h
 
 -- Every day of a style's span is written where the buffer has 12 bytes, and the bytes written, read as a dating line, give the same day.
 pub read-back : (s : Style) (n : ℕ) (before after : List ℕ) (r : WriteAnswer) → 12 ≤ length before → inSpan s n ≡ true
     → Writes before after r (styleNumber s) n → (c : ℕ) × ((r ≡ Bytes c) × IsDayOfLine (take c after) (Day n))
-read-back s n before after r room i h = writer-laws.read-back s n before after r room i h
+read-back s n before after r room i h = go (rw (by-number s, le-leb 12 (length before) room, i) at h)
+  where
+    go : (w : List ℕ) × (IsDateText s n w × Puts before after r w) → (c : ℕ) × ((r ≡ Bytes c) × IsDayOfLine (take c after) (Day n))
+    go k =
+        let written = ap (take (length (k .0))) (k .1 .1 .1) ∙ take-append-seam (k .0) (drop (length (k .0)) before) in
+        (length (k .0), (k .1 .1 .0, subst (λ (x : List ℕ). IsDayOfLine x (Day n)) (sym written) (reads-back s n (k .0) (k .1 .0))))
 
--- A line has one answer.
+-- A line has one answer as text.
 pub one-text : (s t u : List ℕ) → IsAnswer s t → IsAnswer s u → t ≡ u
-one-text s t u h k = answer-laws.one-answer s t u h k
+one-text s t u h k =
+    let same : h .0 ≡ k .0 = one-answer (h .0) (k .0) (h .1 .0) (k .1 .0) in
+    reading-text (k .0) t u (rw same at (h .1 .1)) (k .1 .1)
 
 -- Any two results of putting a line's answer are one: the same length, and the same bytes in the buffer.
 pub one-putting : (s : List ℕ) (i : ℕ) (before a b : List ℕ) (r q : ℕ) → PutsAnswer s i before a r → PutsAnswer s i before b q → (r ≡ q) × (a ≡ b)
-one-putting s i before a b r q h g = answer-laws.one-putting s i before a b r q h g
+one-putting s i before a b r q h g = go (leb (i + 25) (length before)) h g
+  where
+    go : (c : Bool) → unless c ((r ≡ 0) × (a ≡ before)) ((t : List ℕ) × (IsAnswer s t × ((r ≡ length t) × (a ≡ sets before i t))))
+        → unless c ((q ≡ 0) × (b ≡ before)) ((t : List ℕ) × (IsAnswer s t × ((q ≡ length t) × (b ≡ sets before i t)))) → (r ≡ q) × (a ≡ b)
+    go false h g = (h .0 ∙ sym (g .0), h .1 ∙ sym (g .1))
+    go true h g =
+        let same = one-text s (h .0) (g .0) (h .1 .0) (g .1 .0) in
+        (h .1 .1 .0 ∙ ap length same ∙ sym (g .1 .1 .0), h .1 .1 .1 ∙ ap (sets before i) same ∙ sym (g .1 .1 .1))

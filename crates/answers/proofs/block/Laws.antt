@@ -14,7 +14,7 @@ use borrow.Author.Tests.{eq-eqb, ne-eqb, le-leb}
 use Rattle.words.proofs.text.Laws.{rest}
 use Rattle.dating.proofs.answer.Laws.{answer-length, overlong}
 use Rattle.dating.proofs.writer.Laws.{sets-both, sets-start}
-use Rattle.answers.proofs.Lines.{neither, ended-append, open-append, open-whole, open-lacks, answers-append, answers-split, one-output}
+use Rattle.answers.proofs.Lines.{neither, ended-append, open-append, open-whole, open-lacks, answers-append, one-answered, answers-split, one-output}
 use Rattle.words.specs.Text.{has, over}
 use Rattle.dating.specs.Answer.{lineFeed, IsAnswer, PutsAnswer}
 use Rattle.answers.specs.Block.{kept, Written, AnswersBlock, AnswersLast, joined, Run}
@@ -93,17 +93,17 @@ kept-open p (c ∷ s) = go (eqb c lineFeed) (sym (kept-open (kept p ++ c ∷ [])
     go true e = refl
     go false e = e
 
-kept-lacks : (c n : ℕ) (s : List ℕ) → has c s ≡ false → has c (take n s) ≡ false
+take-lacks : (c n : ℕ) (s : List ℕ) → has c s ≡ false → has c (take n s) ≡ false
 unfolding has
-kept-lacks c zero s h = refl
-kept-lacks c (suc n) [] h = refl
-kept-lacks c (suc n) (x ∷ s) h = let no = neither (eqb x c) h in rw (no .0) (kept-lacks c n s (no .1))
+take-lacks c zero s h = refl
+take-lacks c (suc n) [] h = refl
+take-lacks c (suc n) (x ∷ s) h = let no = neither (eqb x c) h in rw (no .0) (take-lacks c n s (no .1))
 
 -- ---- block by block
 -- what is kept of the open line o serves for it
 module _ (o b : List ℕ) (lacks : has lineFeed o ≡ false) where
   whole : (endedLines [] (kept o) ≡ []) × (openLine [] (kept o) ≡ kept o)
-  whole = open-whole [] (kept o) (kept-lacks lineFeed 121 o lacks)
+  whole = open-whole [] (kept o) (take-lacks lineFeed 121 o lacks)
 
   kept-lines : endedLines [] (kept o ++ b) ≡ endedLines (kept o) b
   kept-lines = ended-append [] (kept o) b ∙ rw (whole .0, whole .1)
@@ -111,12 +111,12 @@ module _ (o b : List ℕ) (lacks : has lineFeed o ≡ false) where
   kept-next : kept (openLine [] (kept o ++ b)) ≡ kept (openLine o b)
   kept-next = ap kept (rw (whole .1) at (open-append [] (kept o) b)) ∙ kept-open o b
 
-  -- the lines of a block and of those behind it
-  parted : (rest : List ℕ) → endedLines o (b ++ rest) ++ lastLine (openLine o (b ++ rest))
-      ≡ endedLines o b ++ (endedLines (openLine o b) rest ++ lastLine (openLine (openLine o b) rest))
-  parted rest =
-      rw (ended-append o b rest, open-append o b rest)
-      (append-assoc (endedLines o b) (endedLines (openLine o b) rest) (lastLine (openLine (openLine o b) rest)))
+-- the lines of a block and of those behind it
+parted : (o b rest : List ℕ) → endedLines o (b ++ rest) ++ lastLine (openLine o (b ++ rest))
+    ≡ endedLines o b ++ (endedLines (openLine o b) rest ++ lastLine (openLine (openLine o b) rest))
+parted o b rest =
+    rw (ended-append o b rest, open-append o b rest)
+    (append-assoc (endedLines o b) (endedLines (openLine o b) rest) (lastLine (openLine (openLine o b) rest)))
 
 pub run-on : (o : List ℕ) (bs : List (List ℕ)) (t : List ℕ) → has lineFeed o ≡ false → Run (kept o) bs t
     → Answers (endedLines o (joined bs) ++ lastLine (openLine o (joined bs))) t
@@ -126,7 +126,7 @@ run-on o (b ∷ bs) t lacks (a, (u, (first, (rest, e)))) =
     let o′ = openLine o b in
     let here = alike-answers (kept o) o b a (kept-alike o) (rw (kept-lines o b lacks) at first) in
     let there = run-on o′ bs u (open-lacks o b lacks) (rw (kept-next o b lacks) at rest) in
-    rw (e, parted o b lacks (joined bs)) (answers-append (endedLines o b) (endedLines o′ (joined bs) ++ lastLine (openLine o′ (joined bs))) a u here there)
+    rw (e, parted o b (joined bs)) (answers-append (endedLines o b) (endedLines o′ (joined bs) ++ lastLine (openLine o′ (joined bs))) a u here there)
 
 pub run-back : (o : List ℕ) (bs : List (List ℕ)) (t : List ℕ) → has lineFeed o ≡ false
     → Answers (endedLines o (joined bs) ++ lastLine (openLine o (joined bs))) t → Run (kept o) bs t
@@ -134,7 +134,7 @@ unfolding endedLines openLine
 run-back o [] t lacks h = kept-last o t .1 h
 run-back o (b ∷ bs) t lacks h =
     let o′ = openLine o b in
-    let k = answers-split (endedLines o b) (endedLines o′ (joined bs) ++ lastLine (openLine o′ (joined bs))) t (rw (parted o b lacks (joined bs)) at h) in
+    let k = answers-split (endedLines o b) (endedLines o′ (joined bs) ++ lastLine (openLine o′ (joined bs))) t (rw (parted o b (joined bs)) at h) in
     let here = alike-answers o (kept o) b (k .0) (alike-back (kept o) o (kept-alike o)) (k .1 .1 .0) in
     let there = run-back o′ bs (k .1 .0) (open-lacks o b lacks) (k .1 .1 .1 .0) in
     (k .0, (k .1 .0, (rw (kept-lines o b lacks) here, (rw (kept-next o b lacks) there, k .1 .1 .1 .1))))
@@ -218,7 +218,7 @@ module _ (s before : List ℕ) (written start i : ℕ) (after : List ℕ) (p : S
             let few = answer-length line t told .1 in
             let k : i + 1 - (i + 1) ≡ 0 = omega arith in
             let first : 0 + length (p .text) ≡ written = omega (arith, p .count) in
-            let one : Answers (line-open ∷ []) t = (t, ([], (rw (p .left) at told, (refl, sym (append-nil t))))) in
+            let one = one-answered line-open t (rw (p .left) at told) in
             record {
               text = p .text ++ t;
               answers = rw (one-more, ended-append [] (take i s) (byte ∷ []), ended .0) (answers-append (endedLines [] (take i s)) (line-open ∷ []) (p .text) t (p .answers) one);
@@ -343,7 +343,7 @@ module _ (n e : ℕ) (b : List ℕ) (part : e ≡ min n (length b)) where
           let few = answer-length (take e b) t told .0 in
           rw (← front) (record {
             text = t;
-            answers = rw (last-some (take e b) (omega arith)) (t, ([], (told, (refl, sym (append-nil t)))));
+            answers = rw (last-some (take e b) (omega arith)) (one-answered (take e b) t told);
             room = omega arith;
             count = count;
             bytes = bytes ∙ sets-start t o (omega arith);
@@ -354,12 +354,6 @@ pub one-written : (ls : List (List ℕ)) (o p q : List ℕ) (n m : ℕ) → Writ
 one-written ls o p q n m h k =
     let text = one-output ls (h .text) (k .text) (h .answers) (k .answers) in
     (h .count ∙ ap length text ∙ sym (k .count), h .bytes ∙ ap (λ (t : List ℕ). over t o) text ∙ sym (k .bytes))
-
-pub one-block : (s b m n o p q : List ℕ) (r u : Progress) → AnswersBlock s b m o p r → AnswersBlock s b n o q u → (r ≡ u) × ((m ≡ n) × (p ≡ q))
-one-block s b m n o p q r u h k =
-    let output = one-written (endedLines [] s) o p q (r .written) (u .written) (h .output) (k .output) in
-    let keeps = h .keeps ∙ sym (k .keeps) in
-    (λ i. record { written = output .0 i; kept = keeps i }, (h .buffer ∙ sym (k .buffer), output .1))
 
 -- ---- lengths
 pub written-length : {ls : List (List ℕ)} {o p : List ℕ} {n : ℕ} → Written ls o p n → (length p ≡ length o) × (n ≤ length o)
@@ -373,17 +367,7 @@ kept-length {s} {b} h room =
     (ap length (h .buffer) ∙ over-length (kept (openLine [] s)) b (omega arith), omega (arith, h .keeps))
 
 -- ---- what a call leaves in its buffers is a step of the run
-written-text : {ls : List (List ℕ)} {o p : List ℕ} {n : ℕ} → Written ls o p n → Answers ls (take n p)
+pub written-text : {ls : List (List ℕ)} {o p : List ℕ} {n : ℕ} → Written ls o p n → Answers ls (take n p)
 written-text {ls} {o} {p} {n} h =
     let text : take n p ≡ h .text = rw (h .count, h .bytes) (take-append-seam (h .text) (drop (length (h .text)) o)) in
     subst (Answers ls) (sym text) (h .answers)
-
-pub block-step : (k b s m n o p : List ℕ) (r : Progress) → s ≡ k ++ b → AnswersBlock s m n o p r
-    → Answers (endedLines [] (k ++ b)) (take (r .written) p) × (take (r .kept) n ≡ kept (openLine [] (k ++ b)))
-block-step k b s m n o p r e h =
-    let w = kept (openLine [] s) in
-    let left : take (r .kept) n ≡ w = rw (h .keeps, h .buffer) (take-append-seam w (drop (length w) m)) in
-    rw (← e) (written-text (h .output), left)
-
-pub last-step : (k o p : List ℕ) (n : ℕ) → AnswersLast k o p n → Answers (lastLine k) (take n p)
-last-step k o p n h = written-text h

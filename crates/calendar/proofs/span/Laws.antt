@@ -22,12 +22,13 @@ pub served-range : (s : Style) (y : ℕ) → served s y ≡ true → (firstYear 
 unfolding served
 served-range s y e = range (firstYear s) y 9999 e
 
--- an answered day lies in the span
-pub within-span : (s : Style) (m n : ℕ) → within s m ≡ Day n → inSpan s n ≡ true
+-- an answered day lies in the span, and is the day that was asked of
+pub answered-span : (s : Style) (m n : ℕ) → within s m ≡ Day n → (inSpan s m ≡ true) × (m ≡ n)
 unfolding within
-within-span s m n e =
-    let p = passed-day (inSpan s m) Span m n e in
-    rw (p .1) at (p .0)
+answered-span s m n e = passed-day (inSpan s m) Span m n e
+
+pub within-span : (s : Style) (m n : ℕ) → within s m ≡ Day n → inSpan s n ≡ true
+within-span s m n e = let p = answered-span s m n e in rw (p .1) at (p .0)
 
 -- bounds that hold for both styles
 ends : (s : Style) → (1 ≤ firstYear s) × (1721424 ≤ firstDay s) × (lastDay s ≤ 5373557)

@@ -1,5 +1,5 @@
 -- The code's tables of feasts, and advent.
-use mathlib.Core.Bool.{Bool, true, false, _&&_, cond}
+use mathlib.Core.Bool.{Bool, true, false, _&&_}
 use mathlib.Core.List.{List, [], _∷_}
 use mathlib.Core.Logic.{_⊎_, inl, inr}
 use mathlib.Core.Path.{_≡_, refl}
@@ -20,19 +20,17 @@ use Rattle.calendar.specs.Date.{monthLength, daysOfMonths, isDate, dayNumber, d
 use Rattle.calendar.specs.Range.{between}
 use Rattle.calendar.specs.Refusal.{refusalNumber, unless}
 use Rattle.calendar.specs.Span.{firstDay, inSpan, within, dayOrRefusal}
-use Rattle.calendar.specs.Style.{styleOf, inStyle}
 use Rattle.calendar.specs.Weekday.{weekday, sunday, firstWeekday}
 use Rattle.calendar.specs.Year.{named, leap, newYear, firstYear, served}
 use Rattle.church.proofs.easter.Laws.{easter-served, year-in-span, year-long, before-easter, after-easter}
 use Rattle.church.specs.Easter.{easter, hasEaster}
-use Rattle.church.specs.Feast.{Rule, before, after, on, advent, rule, adventSunday, hungDay, ruleDay, feastInYear, feastOfYear}
+use Rattle.church.specs.Feast.{Rule, before, after, on, advent, rule, adventSunday, hungDay, ruleDay, feastInYear}
 use Rattle.calendar.specs.declared.refusal.Refusal.the-variants.{Name, Year, Span}
 use Rattle.calendar.specs.declared.refusal.Refusal.{Refusal}
 use Rattle.calendar.specs.declared.span.DayAnswer.the-variants.{Day, NoDay}
 use Rattle.calendar.specs.declared.span.DayAnswer.{DayAnswer}
 use Rattle.calendar.specs.declared.style.Style.the-variants.{Julian, Gregorian}
 use Rattle.calendar.specs.declared.style.Style.{Style}
-use Rattle.calendar.specs.declared.style.StyleAnswer.the-variants.{Known, NoStyle}
 use Rattle.calendar.specs.declared.weekday.Side.the-variants.{After}
 use Rattle.calendar.specs.declared.year.NamedYear.{NamedYear}
 
@@ -252,17 +250,8 @@ rule-number t (on d m) g =
     rw (date-is (t .style) (t .year) m d g) (in-year (served (t .style) (t .year)) (t .style) (dayNumber (t .style) (t .year) m d))
 rule-number t advent g = in-year (served (t .style) (t .year)) (t .style) (adventSunday (t .style) (t .year))
 
-feast-number : (t : NamedYear) (f : ℕ) → FeastNumber (dayOrRefusal (feastInYear t f))
+pub feast-number : (t : NamedYear) (f : ℕ) → FeastNumber (dayOrRefusal (feastInYear t f))
 unfolding feastInYear
 feast-number t f =
     behind (between 1 f 48) Name (ruleDay t (rule f)) (inl refl) (λ e. rule-number t (rule f) (rule-good (leap (t .style) (t .year)) f e))
 
-style-case : (k f y : ℕ) (a b : Bool)
-    → FeastNumber (dayOrRefusal (inStyle NoDay (λ s. feastInYear (named s y) f) (cond a (Known Julian) (cond b (Known Gregorian) (NoStyle Name)))))
-style-case k f y true b = feast-number (named Julian y) f
-style-case k f y false true = feast-number (named Gregorian y) f
-style-case k f y false false = inl refl
-
-pub feast-numbers : (k f y : ℕ) → FeastNumber (dayOrRefusal (feastOfYear k f y))
-unfolding styleOf
-feast-numbers k f y = style-case k f y (eqb k 1) (eqb k 2)

@@ -1,5 +1,5 @@
 -- Readings of a line, and the text that tells one.
-use mathlib.Core.Bool.{Bool, true, false}
+use mathlib.Core.Bool.{true, false}
 use mathlib.Core.List.{List, [], _∷_, _++_}
 use mathlib.Core.Logic.{_⊎_, inl, inr}
 use mathlib.Core.Path.{_≡_, refl, sym, _∙_, ap}
@@ -7,7 +7,6 @@ use Prim.Native.Nat.{ℕ, _+_, _-_, _*_, _<_, _≤_}
 use native.Mathlib.Omega.{arith}
 use lib.Dec.{leb}
 use lib.ListN.{length, getD, set, length-append}
-use lib.Seq.{sets}
 use borrow.Author.Tests.{le-leb, lt-leb}
 use Rattle.calendar.proofs.date.Laws.{dated as span-of}
 use Rattle.calendar.proofs.span.Laws.{span-small}
@@ -18,7 +17,7 @@ use Rattle.dating.proofs.line.Laws.{one-letter, letter-told, letter-unt
 use Rattle.dating.proofs.phrase.Laws.{phrase-in-span}
 use Rattle.dating.proofs.writer.Laws as writer-laws
 use Rattle.dating.proofs.writer.Laws.{put-on, put-length, put-byte, field-length}
-use Rattle.calendar.specs.Refusal.{refusalNumber, unless}
+use Rattle.calendar.specs.Refusal.{refusalNumber}
 use Rattle.calendar.specs.Span.{inSpan}
 use Rattle.calendar.specs.Weekday.{weekday, weekdayInStyle, weekdayOrZero}
 use Rattle.words.specs.Text.{space}
@@ -34,7 +33,7 @@ use Rattle.calendar.specs.declared.style.StyleAnswer.{StyleAnswer}
 use Rattle.calendar.specs.declared.style.StyleAnswer.the-variants.{Known, NoStyle}
 
 -- ---- readings
--- the line that an accepted line's bytes spell
+-- an accepted line ends in the letter of its style
 module _ (s : List ℕ) (n : ℕ) where
   pub some-bytes : IsDayOfLine s (Day n) → 1 ≤ length s
   some-bytes (unfit b m) = no-false cc
@@ -148,22 +147,7 @@ overlong s u t h k (q, (told, text)) =
     let same : q ≡ refused Length = line-laws.one-answer q (refused Length) told (refused-reading s Length (too-many s h)) in
     (refused Length, (refused-reading u Length (too-many u k), rw same at text))
 
--- ---- one answer for each line
-pub one-text : (q : Reading) (t u : List ℕ) → AnswerText q t → AnswerText q u → t ≡ u
-one-text (dated s n) t u h k = h .1 .1 ∙ ap (λ (w : List ℕ). dayFields n ++ w ++ lineFeed ∷ []) (writer-laws.one-text s n (h .0) (k .0) (h .1 .0) (k .1 .0)) ∙ sym (k .1 .1)
-one-text (refused x) t u h k = h ∙ sym k
-
-pub one-answer : (s t u : List ℕ) → IsAnswer s t → IsAnswer s u → t ≡ u
-one-answer s t u h k =
-    let same : h .0 ≡ k .0 = line-laws.one-answer (h .0) (k .0) (h .1 .0) (k .1 .0) in
-    one-text (k .0) t u (rw same at (h .1 .1)) (k .1 .1)
-
-pub one-putting : (s : List ℕ) (i : ℕ) (before a b : List ℕ) (r q : ℕ) → PutsAnswer s i before a r → PutsAnswer s i before b q → (r ≡ q) × (a ≡ b)
-one-putting s i before a b r q h g = go (leb (i + 25) (length before)) h g
-  where
-    go : (c : Bool) → unless c ((r ≡ 0) × (a ≡ before)) ((t : List ℕ) × (IsAnswer s t × ((r ≡ length t) × (a ≡ sets before i t))))
-        → unless c ((q ≡ 0) × (b ≡ before)) ((t : List ℕ) × (IsAnswer s t × ((q ≡ length t) × (b ≡ sets before i t)))) → (r ≡ q) × (a ≡ b)
-    go false h g = (h .0 ∙ sym (g .0), h .1 ∙ sym (g .1))
-    go true h g =
-        let same = one-answer s (h .0) (g .0) (h .1 .0) (g .1 .0) in
-        (h .1 .1 .0 ∙ ap length same ∙ sym (g .1 .1 .0), h .1 .1 .1 ∙ ap (sets before i) same ∙ sym (g .1 .1 .1))
+-- ---- one text for each reading
+pub reading-text : (q : Reading) (t u : List ℕ) → AnswerText q t → AnswerText q u → t ≡ u
+reading-text (dated s n) t u h k = h .1 .1 ∙ ap (λ (w : List ℕ). dayFields n ++ w ++ lineFeed ∷ []) (writer-laws.one-text s n (h .0) (k .0) (h .1 .0) (k .1 .0)) ∙ sym (k .1 .1)
+reading-text (refused x) t u h k = h ∙ sym k

@@ -83,13 +83,13 @@ one-ending a b t u g h e =
     (inner .0, λ i. record { style = style i; year = year i })
 
 module _ (s : List ℕ) where
-  abbrev Ends : Type 0
-  Ends = (x : Ended) → GoodYear (x .named) → x .front ++ ending (x .named) ≡ s → ⊥
+  abbrev Unended : Type 0
+  Unended = (x : Ended) → GoodYear (x .named) → x .front ++ ending (x .named) ≡ s → ⊥
 
   abbrev pub TellsEnding : Ending → Type 0
   TellsEnding r = Told endings endAt NoEnding s r
 
-  unended : Ends → TellsEnding NoEnding
+  unended : Unended → TellsEnding NoEnding
   unended none = unproduced none refl
 
   -- the last two bytes of a line, and those before them

@@ -11,8 +11,8 @@ use denote.Ref.{RefT, ptr, now}
 use Rattle.calendar.proofs.refusal.Laws.{no-day}
 use Rattle.words.proofs.text.Laws.{no-false, has-here, cut, known-cut}
 use Rattle.words.proofs.wrapper.Laws.{spaced}
-use Rattle.dating.proofs.anchor.Laws.{lacks-space, three-bytes}
-use Rattle.dating.proofs.line.Laws.{TellsEnding, no-ending, ending-of, its-phrase, one-answer}
+use Rattle.dating.proofs.anchor.Laws.{lacks-space}
+use Rattle.dating.proofs.line.Laws.{TellsEnding, no-ending, ending-of, its-phrase}
 use Rattle.calendar.specs.Range.{between}
 use Rattle.words.specs.Text.{space, has, BehindLast}
 use Rattle.words.specs.Told.{Told, produced, unproduced}
@@ -21,14 +21,14 @@ use Rattle.dating.specs.Anchor.{spellAnchor, GoodAnchor}
 use Rattle.dating.specs.Line.{Line, ending, spellLine, lines, lineDay, unfit, fit, IsDayOfLine}
 use Rattle.dating.specs.Part.{Part, bytesBefore, anchorPart, emptyPart, ifAccepted, linePart, IsPart, placeOf, IsPlace, PartOf}
 use Rattle.dating.specs.Phrase.{Phrase, plain, wrapped, spellPhrase, GoodPhrase, anchorOf}
-use Rattle.calendar.specs.declared.refusal.Refusal.the-variants.{Length, Form}
 use Rattle.calendar.specs.declared.refusal.Refusal.{Refusal}
-use Rattle.calendar.specs.declared.span.DayAnswer.the-variants.{Day, NoDay}
+use Rattle.calendar.specs.declared.refusal.Refusal.the-variants.{Length, Form}
 use Rattle.calendar.specs.declared.span.DayAnswer.{DayAnswer}
+use Rattle.calendar.specs.declared.span.DayAnswer.the-variants.{Day, NoDay}
 use Rattle.calendar.specs.declared.year.NamedYear.{NamedYear}
 use Rattle.words.specs.declared.wrapper.Wrapper.{Wrapper}
-use Rattle.dating.specs.declared.line.Ending.the-variants.{At, NoEnding}
 use Rattle.dating.specs.declared.line.Ending.{Ending}
+use Rattle.dating.specs.declared.line.Ending.the-variants.{At, NoEnding}
 use Rattle.dating.specs.declared.part.Place.{Place}
 
 -- the words of all wrappers of a phrase
@@ -46,7 +46,7 @@ unfolding leads bytesBefore
 leads-long (plain a) = refl
 leads-long (wrapped w p) = length-append (wrapperWords w) (leads p) ∙ ap (λ (n : ℕ). length (wrapperWords w) + n) (leads-long p)
 
-anchor-good : (p : Phrase) → GoodPhrase p → GoodAnchor (anchorOf p)
+pub anchor-good : (p : Phrase) → GoodPhrase p → GoodAnchor (anchorOf p)
 unfolding anchorOf GoodPhrase
 anchor-good (plain a) g = g
 anchor-good (wrapped w p) g = anchor-good p (g .1)
@@ -166,21 +166,3 @@ lies-there x r q h bytes block offset =
       block = block;
       offset = offset ∙ ap (λ (o : Place). o .start + ptr x .1) (p .2);
     }
-
--- the part of an accepted line is not empty
-pub some-bytes : (s : List ℕ) (n : ℕ) (p : Part) → IsDayOfLine s (Day n) → IsPart s p → 1 ≤ length (p .text)
-unfolding linePart
-some-bytes s n p (unfit h m) part = no-day Length n (sym m)
-some-bytes s n p (fit h (unproduced none m)) part = no-day Form n (sym m)
-some-bytes s n p (fit h (produced l g e m)) part =
-    let same : p ≡ anchorPart (l .phrase) = one-answer p (anchorPart (l .phrase)) part (fit h (produced l g e (rw (← m)))) in
-    let some = three-bytes (anchorOf (l .phrase)) (anchor-good (l .phrase) (g .phrase)) in
-    rw same (omega arith)
-
--- two parts that the contract allows are one: the same bytes at the same place
-pub one-part : (x r q : RefT (List ℕ)) → PartOf x r → PartOf x q → (now r ≡ now q) × (ptr r ≡ ptr q)
-one-part x r q h k =
-    let same = one-answer (h .part) (k .part) (h .is-part) (k .is-part) in
-    let offsets = h .offset ∙ ap (λ (p : Part). p .start + ptr x .1) same ∙ sym (k .offset) in
-    let blocks = h .block ∙ sym (k .block) in
-    (h .contents ∙ ap (λ (p : Part). p .text) same ∙ sym (k .contents), λ i. (blocks i, offsets i))

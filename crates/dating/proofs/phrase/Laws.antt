@@ -28,20 +28,15 @@ use Rattle.dating.specs.Act.{moved, acted}
 use Rattle.dating.specs.Anchor.{Anchor, feast, date, spellAnchor, GoodAnchor, anchorDay}
 use Rattle.dating.specs.Phrase.{Phrase, plain, wrapped, spellPhrase, GoodPhrase, anchorOf, wrappersAct, phraseDay}
 use Rattle.dating.specs.Steps.{anchors, phrases}
-use Rattle.calendar.specs.declared.refusal.Refusal.the-variants.{Name, Length, Form, Year, Date, Span}
 use Rattle.calendar.specs.declared.refusal.Refusal.{Refusal}
-use Rattle.calendar.specs.declared.span.DayAnswer.the-variants.{Day, NoDay}
+use Rattle.calendar.specs.declared.refusal.Refusal.the-variants.{Name, Length, Form, Year, Date, Span}
 use Rattle.calendar.specs.declared.span.DayAnswer.{DayAnswer}
+use Rattle.calendar.specs.declared.span.DayAnswer.the-variants.{Day, NoDay}
 use Rattle.calendar.specs.declared.style.Style.{Style}
 use Rattle.calendar.specs.declared.year.NamedYear.{NamedYear}
-use Rattle.words.specs.declared.wrapper.Lead.the-variants.{Wrapped, Plain}
 use Rattle.words.specs.declared.wrapper.Lead.{Lead}
+use Rattle.words.specs.declared.wrapper.Lead.the-variants.{Wrapped, Plain}
 use Rattle.words.specs.declared.wrapper.Wrapper.{Wrapper}
-
--- a wrapper acts on the day of the phrase behind it
-pub wrapper-acts : (t : NamedYear) (w : Wrapper) (p : Phrase) → phraseDay t (wrapped w p) ≡ acted (t .style) w (phraseDay t p)
-unfolding phraseDay wrappersAct anchorOf
-wrapper-acts t w p = refl
 
 -- ---- no feast word or date begins with a wrapper's words
 no-anchor : {A : Type 0} (a : Anchor) (w : Wrapper) (t : List ℕ) → GoodAnchor a → spellAnchor a ≡ wrapperWords w ++ t → A

@@ -1,43 +1,39 @@
 -- Bytes put into a buffer one behind the other, and what dates are made of.
-use mathlib.Core.Bool.{Bool, true, false, cond}
+use mathlib.Core.Bool.{Bool, true, false}
 use mathlib.Core.List.{List, [], _∷_, _++_, append-assoc}
 use mathlib.Core.Logic.{_⊎_, inl, inr}
-use mathlib.Core.Path.{_≡_, refl, sym, _∙_, ap, subst}
+use mathlib.Core.Path.{_≡_, refl, sym, _∙_, ap}
 use Prim.Native.Nat.{ℕ, suc, _+_, _-_, _/_, _%_, _<_, _≤_}
 use native.Mathlib.Omega.{arith}
-use lib.Dec.{eqb, leb}
-use lib.ListN.{length, take, drop, set, length-append}
-use lib.Seq.{take-append-seam, sets, length-sets, sets-eq, set-comm}
+use lib.Dec.{leb}
+use lib.ListN.{length, set, length-append}
+use lib.Seq.{sets, length-sets, sets-eq, set-comm}
 use borrow.Author.Tests.{le-leb, lt-leb}
 use Rattle.calendar.proofs.date.Laws.{date-small, one-answer}
 use Rattle.calendar.proofs.range.Laws.{in-range}
-use Rattle.calendar.proofs.refusal.Laws.{passed}
-use Rattle.calendar.proofs.style.Laws.{by-number}
-use Rattle.words.proofs.numeral.Laws.{one-digit, more-digits, more-length, numeral-length, two-digits, four-digits}
-use Rattle.words.proofs.text.Laws.{no-false}
+use Rattle.calendar.proofs.refusal.Laws.{refused-by}
+use Rattle.words.proofs.numeral.Laws.{one-digit, more-digits, more-length, two-digits, four-digits}
+use Rattle.dating.proofs.line.Laws.{line-length}
 use Rattle.calendar.specs.Date.{dayInYear}
 use Rattle.calendar.specs.Refusal.{unless}
 use Rattle.calendar.specs.Span.{inSpan, within}
-use Rattle.calendar.specs.Style.{styleNumber, styleLetter, styleOf, inStyle}
+use Rattle.calendar.specs.Style.{styleLetter}
 use Rattle.calendar.specs.Year.{named}
 use Rattle.words.specs.Numeral.{digit, numeral}
 use Rattle.words.specs.Text.{space, point, over}
 use Rattle.words.specs.Told.{produced}
 use Rattle.dating.specs.Anchor.{date, spellAnchor, GoodAnchor, anchorDay}
 use Rattle.dating.specs.Answer.{field}
-use Rattle.dating.specs.Line.{spellLine, lineDay, fit, IsDayOfLine}
+use Rattle.dating.specs.Line.{Line, spellLine, GoodLine, lineDay, fit, IsDayOfLine}
 use Rattle.dating.specs.Phrase.{plain, spellPhrase, GoodPhrase, anchorOf, wrappersAct, phraseDay}
 use Rattle.dating.specs.Steps.{Put, PutsDate}
-use Rattle.dating.specs.Writer.{dateText, IsDateText, bytesOrRefusal, Refuses, Puts, WritesInStyle, Writes}
+use Rattle.dating.specs.Writer.{dateText, IsDateText, bytesOrRefusal, Refuses, Puts, WritesInStyle}
 use Rattle.calendar.specs.declared.date.DateAnswer.{DateAnswer}
 use Rattle.calendar.specs.declared.date.DateAnswer.the-variants.{On, NoDate}
 use Rattle.calendar.specs.declared.refusal.Refusal.{Refusal}
-use Rattle.calendar.specs.declared.refusal.Refusal.the-variants.{Name, Length, Span}
+use Rattle.calendar.specs.declared.refusal.Refusal.the-variants.{Length, Span}
 use Rattle.calendar.specs.declared.span.DayAnswer.the-variants.{Day, NoDay}
 use Rattle.calendar.specs.declared.style.Style.{Style}
-use Rattle.calendar.specs.declared.style.Style.the-variants.{Julian, Gregorian}
-use Rattle.calendar.specs.declared.style.StyleAnswer.{StyleAnswer}
-use Rattle.calendar.specs.declared.style.StyleAnswer.the-variants.{Known, NoStyle}
 use Rattle.calendar.specs.declared.year.NamedYear.{NamedYear}
 use Rattle.dating.specs.declared.writer.WriteAnswer.{WriteAnswer}
 use Rattle.dating.specs.declared.writer.WriteAnswer.the-variants.{Bytes, NoBytes}
@@ -139,10 +135,6 @@ pub day-put : (s : Style) (n y m d : ℕ) {i r : ℕ} {before after : List ℕ} 
     → Put before i (dateText (named s y) m d) after r → PutsDate s n i before after r
 day-put s n y m d e p = (dateText (named s y) m d, (record { year = y; month = m; day = d; is-date = e; text = refl }, p))
 
-pub in-span : (s : Style) (n m : ℕ) → within s n ≡ Day m → inSpan s n ≡ true
-unfolding within
-in-span s n m e = passed (inSpan s n) Span _ m e .0
-
 module _ (s : Style) (n : ℕ) (before : List ℕ) where
   pub too-short : length before < 12 → WritesInStyle before before (NoBytes Length) s n
   too-short h = rw (lt-leb 12 (length before) h) (refl, refl)
@@ -150,11 +142,9 @@ module _ (s : Style) (n : ℕ) (before : List ℕ) where
   module _ (room : 12 ≤ length before) where
     pub outside : (x : Refusal) → within s n ≡ NoDay x → WritesInStyle before before (NoBytes x) s n
     unfolding within
-    outside x e = rw (le-leb 12 (length before) room) (go (inSpan s n) e)
-      where
-        go : (b : Bool) → unless b (NoDay Span) (Day n) ≡ NoDay x → unless b (Refuses before before (NoBytes x) Span) ((w : List ℕ) × (IsDateText s n w × Puts before before (NoBytes x) w))
-        go true e = no-false cc
-        go false e = (cc, refl)
+    outside x e =
+        let out = refused-by (inSpan s n) Span x n e in
+        rw (le-leb 12 (length before) room, out .0) (ap NoBytes (out .1), refl)
 
     pub written : (after : List ℕ) (r : ℕ) → inSpan s n ≡ true → PutsDate s n 0 before after r → WritesInStyle before after (Bytes r) s n
     written after r i h =
@@ -176,19 +166,28 @@ one-text s n v w p q = p .text ∙ ap text (one-answer s n (on p) (on q) (p .is-
     text (On y m d) = dateText (named s y) m d
     text (NoDate x) = []
 
-reads-back : (s : Style) (n : ℕ) (w : List ℕ) → IsDateText s n w → IsDayOfLine w (Day n)
+-- the line of the grammar that a written date is
+date-line : (s : Style) (n : ℕ) (w : List ℕ) → IsDateText s n w → (l : Line) × (GoodLine l × ((spellLine l ≡ w) × (lineDay l ≡ Day n)))
 unfolding spellLine spellPhrase spellAnchor GoodPhrase GoodAnchor lineDay phraseDay wrappersAct anchorOf anchorDay
+date-line s n w t =
+    let small = date-small s n (t .year) (t .month) (t .day) (t .is-date) in (
+      record { phrase = plain (date (t .day) (t .month)); named = named s (t .year) },
+      (record { phrase = (small .0, small .1); year = small .2 }, (sym (t .text), t .is-date)),
+    )
+
+seven-bytes : (s : Style) (n : ℕ) (w : List ℕ) → IsDateText s n w → 7 ≤ length w
+seven-bytes s n w t = let l = date-line s n w t in rw (l .1 .1 .0) at (line-length (l .0) (l .1 .0))
+
+pub reads-back : (s : Style) (n : ℕ) (w : List ℕ) → IsDateText s n w → IsDayOfLine w (Day n)
 reads-back s n w t =
     let few = text-length s n w t in
-    let some = rw (← t .text) at (date-length (named s (t .year)) (t .month) (t .day)) in
-    let small = date-small s n (t .year) (t .month) (t .day) (t .is-date) in
-    fit (in-range 1 (length w) 120 (omega arith) (omega arith))
-    (produced (record { phrase = plain (date (t .day) (t .month)); named = named s (t .year) })
-    (record { phrase = (small .0, small .1); year = small .2 }) (sym (t .text)) (sym (t .is-date)))
+    let some = seven-bytes s n w t in
+    let l = date-line s n w t in
+    fit (in-range 1 (length w) 120 (omega arith) (omega arith)) (produced (l .0) (l .1 .0) (l .1 .1 .0) (sym (l .1 .1 .1)))
 
 -- ---- one result for each call
 module _ (before a b : List ℕ) (r q : WriteAnswer) where
-  one-refusal : (x : Refusal) → Refuses before a r x → Refuses before b q x → (r ≡ q) × (a ≡ b)
+  pub one-refusal : (x : Refusal) → Refuses before a r x → Refuses before b q x → (r ≡ q) × (a ≡ b)
   one-refusal x h g = (h .0 ∙ sym (g .0), h .1 ∙ sym (g .1))
 
   pub one-in-style : (s : Style) (n : ℕ) → WritesInStyle before a r s n → WritesInStyle before b q s n → (r ≡ q) × (a ≡ b)
@@ -203,55 +202,20 @@ module _ (before a b : List ℕ) (r q : WriteAnswer) where
           let same = one-text s n (h .0) (g .0) (h .1 .0) (g .1 .0) in
           (h .1 .1 .0 ∙ ap (λ (w : List ℕ). Bytes (length w)) same ∙ sym (g .1 .1 .0), h .1 .1 .1 ∙ ap (λ (w : List ℕ). over w before) same ∙ sym (g .1 .1 .1))
 
-pub one-writing : (k n : ℕ) (before a b : List ℕ) (r q : WriteAnswer) → Writes before a r k n → Writes before b q k n → (r ≡ q) × (a ≡ b)
-one-writing k n before a b r q h g = go (styleOf k) h g
-  where
-    go : (x : StyleAnswer) → inStyle (Refuses before a r) (λ s. WritesInStyle before a r s n) x → inStyle (Refuses before b q) (λ s. WritesInStyle before b q s n) x → (r ≡ q) × (a ≡ b)
-    go (Known s) h g = one-in-style before a b r q s n h g
-    go (NoStyle x) h g = one-refusal before a b r q x h g
-
-pub read-back : (s : Style) (n : ℕ) (before after : List ℕ) (r : WriteAnswer) → 12 ≤ length before → inSpan s n ≡ true
-    → Writes before after r (styleNumber s) n → (c : ℕ) × ((r ≡ Bytes c) × IsDayOfLine (take c after) (Day n))
-read-back s n before after r room i h = go (rw (by-number s, le-leb 12 (length before) room, i) at h)
-  where
-    go : (w : List ℕ) × (IsDateText s n w × Puts before after r w) → (c : ℕ) × ((r ≡ Bytes c) × IsDayOfLine (take c after) (Day n))
-    go k =
-        let written = ap (take (length (k .0))) (k .1 .1 .1) ∙ take-append-seam (k .0) (drop (length (k .0)) before) in
-        (length (k .0), (k .1 .1 .0, subst (λ (x : List ℕ). IsDayOfLine x (Day n)) (sym written) (reads-back s n (k .0) (k .1 .0))))
-
 -- ---- the numbers of an answer
-seven-bytes : (s : Style) (n : ℕ) (w : List ℕ) → IsDateText s n w → 7 ≤ length w
-seven-bytes s n w t =
-    let all = date-length (named s (t .year)) (t .month) (t .day) in
-    let day = field-length (t .day) point in
-    let month = field-length (t .month) space in
-    let year = field-length (t .year) space in
-    rw (t .text) (omega (arith, numeral-length (t .day), numeral-length (t .month), numeral-length (t .year)))
-
--- the numbers that the writer can answer: a refusal, or 7 to 12 bytes
+-- a refusal, or 7 to 12 bytes
 abbrev pub WriteNumber : ℕ → Type 0
 WriteNumber n = (n ≡ 1) ⊎ ((n ≡ 2) ⊎ ((n ≡ 6) ⊎ ((7 ≤ n) × (n ≤ 12))))
 
-module _ (before after : List ℕ) (r : WriteAnswer) where
-  number-in-style : (s : Style) (n : ℕ) → WritesInStyle before after r s n → WriteNumber (bytesOrRefusal r)
-  number-in-style s n h = go (leb 12 (length before)) (inSpan s n) h
-    where
-      go : (c d : Bool) → unless c (Refuses before after r Length) (unless d (Refuses before after r Span) ((w : List ℕ) × (IsDateText s n w × Puts before after r w)))
-          → WriteNumber (bytesOrRefusal r)
-      go false d h = inr (inl (ap bytesOrRefusal (h .0)))
-      go true false h = inr (inr (inl (ap bytesOrRefusal (h .0))))
-      go true true h =
-          let few = text-length s n (h .0) (h .1 .0) in
-          let some = seven-bytes s n (h .0) (h .1 .0) in
-          let e = ap bytesOrRefusal (h .1 .1 .0) in
-          inr (inr (inr (omega arith, omega arith)))
-
-  pub write-numbers : (k n : ℕ) → Writes before after r k n → WriteNumber (bytesOrRefusal r)
-  unfolding styleOf
-  write-numbers k n h = go (eqb k 1) (eqb k 2) h
-    where
-      go : (a b : Bool) → inStyle (Refuses before after r) (λ s. WritesInStyle before after r s n) (cond a (Known Julian) (cond b (Known Gregorian) (NoStyle Name)))
-          → WriteNumber (bytesOrRefusal r)
-      go true b h = number-in-style Julian n h
-      go false true h = number-in-style Gregorian n h
-      go false false h = inl (ap bytesOrRefusal (h .0))
+pub number-in-style : (before after : List ℕ) (r : WriteAnswer) (s : Style) (n : ℕ) → WritesInStyle before after r s n → WriteNumber (bytesOrRefusal r)
+number-in-style before after r s n h = go (leb 12 (length before)) (inSpan s n) h
+  where
+    go : (c d : Bool) → unless c (Refuses before after r Length) (unless d (Refuses before after r Span) ((w : List ℕ) × (IsDateText s n w × Puts before after r w)))
+        → WriteNumber (bytesOrRefusal r)
+    go false d h = inr (inl (ap bytesOrRefusal (h .0)))
+    go true false h = inr (inr (inl (ap bytesOrRefusal (h .0))))
+    go true true h =
+        let few = text-length s n (h .0) (h .1 .0) in
+        let some = seven-bytes s n (h .0) (h .1 .0) in
+        let e = ap bytesOrRefusal (h .1 .1 .0) in
+        inr (inr (inr (omega arith, omega arith)))

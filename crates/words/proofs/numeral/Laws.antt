@@ -31,11 +31,11 @@ value : ℕ → List ℕ → ℕ
 value v [] = v
 value v (x ∷ s) = value (10 * v + (x - 48)) s
 
--- what a numeral is made of: 1 to 4 digits, the first no 0, three of them only up to 999, and it stands for its number
+-- what a numeral is made of: digits, the first no 0, three of them only up to 999, and it stands for its number
 made : ℕ → List Bool
 made n =
     let s = numeral n in
-    allDigits s ∷ between 1 (length s) 4 ∷ ltb 48 (getD s 0 0) ∷ (ltb n 1000 || ltb 3 (length s)) ∷ eqb (value 0 s) n ∷ []
+    allDigits s ∷ ltb 48 (getD s 0 0) ∷ (ltb n 1000 || ltb 3 (length s)) ∷ eqb (value 0 s) n ∷ []
 
 module _ (n : ℕ) (low : 1 ≤ n) (high : n ≤ 9999) where
   all-made : (i : ℕ) → getD (made n) i true ≡ true
@@ -46,22 +46,18 @@ module _ (n : ℕ) (low : 1 ≤ n) (high : n ≤ 9999) where
   unfolding made
   all-digits = all-made 0
 
-  few-digits : between 1 (length (numeral n)) 4 ≡ true
-  unfolding made
-  few-digits = all-made 1
-
   no-zero : ltb 48 (getD (numeral n) 0 0) ≡ true
   unfolding made
-  no-zero = all-made 2
+  no-zero = all-made 1
 
   stands-for : value 0 (numeral n) ≡ n
   unfolding made
-  stands-for = eqb-true (value 0 (numeral n)) n (all-made 4)
+  stands-for = eqb-true (value 0 (numeral n)) n (all-made 3)
 
   -- a numeral of at most three digits is of a number below 1000
   three-digits : length (numeral n) ≤ 3 → n ≤ 999
   unfolding made
-  three-digits h = small (ltb n 1000) refl (all-made 3)
+  three-digits h = small (ltb n 1000) refl (all-made 2)
     where
       small : (b : Bool) → ltb n 1000 ≡ b → (b || ltb 3 (length (numeral n))) ≡ true → n ≤ 999
       small true e f = let l = ltb-true n 1000 e in omega arith
@@ -79,12 +75,6 @@ unfolding allDigits isDigit
 digit-at [] e i h = absurd (omega arith)
 digit-at (x ∷ s) e zero h = range 48 x 57 (both (between 48 x 57) (allDigits s) e .0)
 digit-at (x ∷ s) e (suc i) h = digit-at s (both (between 48 x 57) (allDigits s) e .1) i (omega arith)
-
-shape : (n : ℕ) → 1 ≤ n → n ≤ 9999 → Shape (numeral n)
-shape n low high =
-    let l = range 1 (length (numeral n)) 4 (few-digits n low high) in
-    let f = ltb-true 48 (getD (numeral n) 0 0) (no-zero n low high) in
-    record { some = l .0; few = l .1; first = omega arith; digits = digit-at (numeral n) (all-digits n low high) }
 
 pub one-number : (n m : ℕ) → 1 ≤ n → n ≤ 9999 → 1 ≤ m → m ≤ 9999 → numeral n ≡ numeral m → n ≡ m
 one-number n m ln hn lm hm e = sym (stands-for n ln hn) ∙ ap (value 0) e ∙ stands-for m lm hm
@@ -107,7 +97,6 @@ pub one-digit : (n : ℕ) → n ≤ 9 → numeral n ≡ digit n ∷ []
 unfolding decimal
 one-digit n h = rw (lt-ltb n 10 (omega arith))
 
--- 2 ^ 64 at most
 pub more-digits : (n : ℕ) → 10 ≤ n → n ≤ 18446744073709551616 → numeral n ≡ numeral (n / 10) ++ digit (n % 10) ∷ []
 unfolding decimal tens
 more-digits n low high = rw (le-ltb n 10 low, ← enough 18 (n / 10) (omega arith))
@@ -160,6 +149,11 @@ unfolding tens
 seven-digits n h = short 6 n (omega arith) (omega arith)
 
 -- ---- reading, byte by byte
+shape : (n : ℕ) → 1 ≤ n → n ≤ 9999 → Shape (numeral n)
+shape n low high =
+    let f = ltb-true 48 (getD (numeral n) 0 0) (no-zero n low high) in
+    record { some = numeral-length n .0; few = four-digits n high; first = omega arith; digits = digit-at (numeral n) (all-digits n low high) }
+
 pub no-numeral : (high : ℕ) (s : List ℕ) → (Shape s → ⊥) → Told (numerals high) (λ n. n) 0 s 0
 no-numeral high s bad = unproduced (λ n g e. bad (subst Shape e (shape n (g .0) (omega (arith, g))))) refl
 

@@ -1,7 +1,8 @@
 use mathlib.Core.Path.{sym, _∙_}
 use native.Mathlib.Omega.{arith}
 use borrow.Author.Needs.{needs}
-use Rattle.dating.proofs.writer.Laws.{in-span, too-short, outside, written}
+use Rattle.calendar.proofs.span.Laws.{answered-span}
+use Rattle.dating.proofs.writer.Laws.{too-short, outside, written}
 use Rattle.dating.proofs.writer.write_in_style.Statement.{statement}
 use Rattle.dating.proofs.writer.write_in_style.Tie as tie
 
@@ -13,12 +14,12 @@ returns c =
 put-day-requires : tie.Need-put-day-requires
 put-day-requires c κs =
     let a = c .before .before .before .before .before .before .args in
-    (omega (arith, c .before .before .before .before .if1 .left), in-span (a .style) (a .day) _ (sym (c .before .before .before .day-within .ensures) ∙ c .before .enum-told .given .1))
+    (omega (arith, c .before .before .before .before .if1 .left), answered-span (a .style) (a .day) _ (sym (c .before .before .before .day-within .ensures) ∙ c .before .enum-told .given .1) .0)
 
 returns-2 : tie.Need-returns-2
 returns-2 c =
     let a = c .before .before .before .before .before .before .before .before .before .args in
-    written (a .style) (a .day) (a .buffer .now) (c .before .before .before .before .before .before .before .if1 .left) _ _ (in-span (a .style) (a .day) _ (sym (c .before .before .before .before .before .before .day-within .ensures) ∙ c .before .before .before .before .enum-told .given .1)) (c .before .before .put-day .ensures)
+    written (a .style) (a .day) (a .buffer .now) (c .before .before .before .before .before .before .before .if1 .left) _ _ (answered-span (a .style) (a .day) _ (sym (c .before .before .before .before .before .before .day-within .ensures) ∙ c .before .before .before .before .enum-told .given .1) .0) (c .before .before .put-day .ensures)
 
 returns-3 : tie.Need-returns-3
 returns-3 c =
