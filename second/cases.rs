@@ -1,10 +1,14 @@
 //! Lines `CALL NUMBERS: ANSWER`, each answered anew and compared.
 
-use crate::days::{Answer, Date, date_of_day, day_of_date, distance_of_dates, weekday_of_day};
+use crate::days::{Answer, Date, date_of_day, day_of_date, distance_of_dates, style, weekday_of_day};
 use crate::feasts::{COUNT, day_of_feast};
+use crate::lines::STYLES;
 use crate::sheets::sheet_of_year;
 use std::io::BufRead;
 use std::process::ExitCode;
+
+/// The most bytes that a call of the writer is lent here.
+const LENT: i128 = 16;
 
 fn date(year: i128, month: i128, day: i128) -> Date {
     Date { year, month, day }
@@ -40,6 +44,26 @@ fn year(style: i128, year: i128) -> String {
     format!("{}; {}", sheet(style, year), feasts.join(" "))
 }
 
+/// The date as it is written, where the buffer has room for the longest, 31.12 9999 J.
+fn date_text(number: i128, day: i128, length: i128) -> Answer<String> {
+    style(number)?;
+    if length < 12 {
+        return Err(2);
+    }
+    let Date { year, month, day } = date_of_day(number, day)?;
+    Ok(format!("{day}.{month} {year} {}", STYLES[number as usize - 1]))
+}
+
+/// The number of bytes, or the refusal's, and the lent bytes, which were all `#` before.
+fn write(style: i128, day: i128, length: i128) -> String {
+    let (count, text) = match date_text(style, day, length) {
+        Ok(text) => (text.len(), text),
+        Err(refusal) => (usize::from(refusal), String::new()),
+    };
+    let lent = format!("{text:#<width$}", width = length as usize);
+    format!("{count} {lent}").trim_end().to_string()
+}
+
 /// A number of a call: 1 to 20 digits, and at most 2^64 - 1.
 fn number(word: &str) -> Option<i128> {
     let digits = (1..=20).contains(&word.len()) && word.bytes().all(|byte| byte.is_ascii_digit());
@@ -57,6 +81,7 @@ fn known(call: &str) -> Option<String> {
         ("feast", &[s, f, y]) => Some(feast(s, f, y)),
         ("sheet", &[s, y]) => Some(sheet(s, y)),
         ("year", &[s, y]) => Some(year(s, y)),
+        ("write", &[s, n, l]) if l <= LENT => Some(write(s, n, l)),
         ("distance", &[s, y, m, d, t, z, n, e]) => {
             Some(two(distance_of_dates(s, &date(y, m, d), t, &date(z, n, e))))
         }
