@@ -254,4 +254,3 @@ pub feast-number : (t : NamedYear) (f : ℕ) → FeastNumber (dayOrRefusal (feas
 unfolding feastInYear
 feast-number t f =
     behind (between 1 f 48) Name (ruleDay t (rule f)) (inl refl) (λ e. rule-number t (rule f) (rule-good (leap (t .style) (t .year)) f e))
-
