@@ -82,8 +82,7 @@ part-some s n p (fit h (produced l g e m)) part =
 
 -- A wrapper acts on the day of the phrase behind it.
 pub wrapper-acts : (t : NamedYear) (w : Wrapper) (p : Phrase) → phraseDay t (wrapped w p) ≡ acted (t .style) w (phraseDay t p)
-unfolding phraseDay wrappersAct anchorOf
-wrapper-acts t w p = refl
+wrapper-acts t w p = phrase-laws.wrapper-acts t w p
 
 -- a phrase comes to the day n in the named year: its feast or date is a day, and every day on the way lies in the span
 unfoldable pub ComesTo : NamedYear → Phrase → ℕ → Type 0

@@ -38,6 +38,11 @@ use Rattle.words.specs.declared.wrapper.Lead.{Lead}
 use Rattle.words.specs.declared.wrapper.Lead.the-variants.{Wrapped, Plain}
 use Rattle.words.specs.declared.wrapper.Wrapper.{Wrapper}
 
+-- ---- a wrapper acts on the day of the phrase behind it
+pub wrapper-acts : (t : NamedYear) (w : Wrapper) (p : Phrase) → phraseDay t (wrapped w p) ≡ acted (t .style) w (phraseDay t p)
+unfolding phraseDay wrappersAct anchorOf
+wrapper-acts t w p = refl
+
 -- ---- no feast word or date begins with a wrapper's words
 no-anchor : {A : Type 0} (a : Anchor) (w : Wrapper) (t : List ℕ) → GoodAnchor a → spellAnchor a ≡ wrapperWords w ++ t → A
 no-anchor a w t g e =
@@ -68,7 +73,7 @@ acted-in-span s w (NoDay x) n e = no-day x n e
 pub phrase-in-span : (t : NamedYear) (p : Phrase) (n : ℕ) → phraseDay t p ≡ Day n → inSpan (t .style) n ≡ true
 unfolding phraseDay wrappersAct anchorOf
 phrase-in-span t (plain a) n e = anchor-in-span t a n e
-phrase-in-span t (wrapped w p) n e = acted-in-span (t .style) w (phraseDay t p) n e
+phrase-in-span t (wrapped w p) n e = acted-in-span (t .style) w (phraseDay t p) n (sym (wrapper-acts t w p) ∙ e)
 
 pub told-in-span : (t : NamedYear) (s : List ℕ) (n : ℕ) → Told phrases (phraseDay t) (NoDay Form) s (Day n) → inSpan (t .style) n ≡ true
 told-in-span t s n (produced p g e m) = phrase-in-span t p n (sym m)
@@ -89,7 +94,7 @@ pub phrase-served : (t : NamedYear) (p : Phrase) (n : ℕ) → phraseDay t p ≡
 unfolding phraseDay wrappersAct anchorOf
 phrase-served t (plain a) n e = anchor-served t a n e
 phrase-served t (wrapped w p) n e =
-    let m = behind-day (t .style) w (phraseDay t p) n e in
+    let m = behind-day (t .style) w (phraseDay t p) n (sym (wrapper-acts t w p) ∙ e) in
     phrase-served t p (m .0) (m .1)
 
 -- ---- a good phrase is refused by 4, 5 or 6 alone
