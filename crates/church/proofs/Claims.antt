@@ -39,7 +39,7 @@ one-answer k y r r′ h h′ = sheet-laws.one-answer k y r r′ h h′
 pub one-answer-in-year : (t : NamedYear) (r r′ : SheetAnswer) → IsSheetInYear t r → IsSheetInYear t r′ → r ≡ r′
 one-answer-in-year t r r′ h h′ = sheet-laws.one-in-year t r r′ h h′
 
--- An epact is the remainder by 30 of its sum, also where that is negative.
+-- A G epact is the remainder by 30 of its sum, also where that is negative.
 pub epact-remainder : (y : ℕ)
     → (epact Gregorian y ≤ 29) × ((q : ℤ) × (pos 30 *ℤ q +ℤ pos (epact Gregorian y) ≡ gregorianSum (golden y) (hundreds y)))
 unfolding epact

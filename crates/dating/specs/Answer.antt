@@ -8,7 +8,7 @@ use lib.ListN.{length}
 use lib.Seq.{sets}
 use Rattle.calendar.specs.Refusal.{refusalNumber, unless}
 use Rattle.calendar.specs.Weekday.{weekday}
-use Rattle.words.specs.Numeral.{numeral}
+use Rattle.words.specs.Numeral.{field}
 use Rattle.words.specs.Text.{space}
 use Rattle.dating.specs.Line.{lineDay, LineTold}
 use Rattle.dating.specs.Writer.{IsDateText}
@@ -32,10 +32,6 @@ readingOf s (NoDay x) = refused x
 -- r is the reading of the line s
 abbrev pub IsReading : List ℕ → Reading → Type 0
 IsReading = LineTold (λ l. readingOf (l .named .style) (lineDay l)) refused
-
--- a number and the byte c behind it
-abbrev pub field : ℕ → ℕ → List ℕ
-field n c = numeral n ++ c ∷ []
 
 -- what stands before the date for the day n: "0, day number, weekday"
 abbrev pub dayFields : ℕ → List ℕ

@@ -14,8 +14,7 @@ ghost use mathlib.Core.Path.{_≡_};
 ghost use Prim.Native.Nat.{_+_, _≤_};
 ghost use lib.ListN.{length};
 ghost use Rattle.calendar.specs.Span.{inSpan};
-ghost use Rattle.words.specs.Numeral.{numeral};
-ghost use Rattle.dating.specs.Answer.{field};
+ghost use Rattle.words.specs.Numeral.{numeral, field};
 ghost use Rattle.dating.specs.Steps.{Put, PutsDate};
 ghost use Rattle.dating.specs.Writer.{dateText, WritesInStyle, Writes};
 
@@ -26,7 +25,7 @@ pub enum WriteAnswer {
 }
 
 // How many digits a number has.
-fn digits_of(number: u64) -> usize
+fn digit_count(number: u64) -> usize
     ensures { λ r. ⌜ r ≡ length (numeral number) ⌝ }
 {
     let mut count = 1;
@@ -43,7 +42,7 @@ pub(crate) fn put_number(buffer: &mut [u8], at: usize, number: u64, behind: u8) 
     requires { ⌜ at + length (field number behind) ≤ length (now buffer) ⌝ }
     ensures { λ r. ⌜ Put (now (buffer .entry)) at (field number behind) (now (buffer .exit)) r ⌝ }
 {
-    let end = at + digits_of(number);
+    let end = at + digit_count(number);
     buffer[end] = behind;
     let mut i = end;
     let mut rest = number;

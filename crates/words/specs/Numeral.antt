@@ -19,6 +19,10 @@ decimal (suc k) n = cond (ltb n 10) (digit n ∷ []) (decimal k (n / 10) ++ digi
 abbrev pub numeral : ℕ → List ℕ
 numeral n = decimal 19 n
 
+-- a numeral and the byte c behind it
+abbrev pub field : ℕ → ℕ → List ℕ
+field n c = numeral n ++ c ∷ []
+
 -- the numbers from 1 to high, spelled in some way
 abbrev pub numbers : ℕ → (ℕ → List ℕ) → Grammar
 numbers high spelled = record { Tree = ℕ; Good = λ n. (1 ≤ n) × (n ≤ high); spell = spelled }

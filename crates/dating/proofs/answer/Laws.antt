@@ -20,9 +20,10 @@ use Rattle.dating.proofs.writer.Laws.{put-on, put-length, put-byte, fie
 use Rattle.calendar.specs.Refusal.{refusalNumber}
 use Rattle.calendar.specs.Span.{inSpan}
 use Rattle.calendar.specs.Weekday.{weekday, weekdayInStyle, weekdayOrZero}
+use Rattle.words.specs.Numeral.{field}
 use Rattle.words.specs.Text.{space}
 use Rattle.words.specs.Told.{Told, produced, unproduced}
-use Rattle.dating.specs.Answer.{lineFeed, Reading, dated, refused, IsReading, field, dayFields, AnswerText, IsAnswer, PutsAnswer}
+use Rattle.dating.specs.Answer.{lineFeed, Reading, dated, refused, IsReading, dayFields, AnswerText, IsAnswer, PutsAnswer}
 use Rattle.dating.specs.Line.{lineDay, unfit, fit, IsDayOfLine}
 use Rattle.dating.specs.Steps.{letters, Put, PutsDate, PutsReading}
 use Rattle.calendar.specs.declared.refusal.Refusal.{Refusal}

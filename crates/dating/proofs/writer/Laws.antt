@@ -19,11 +19,10 @@ use Rattle.calendar.specs.Refusal.{unless}
 use Rattle.calendar.specs.Span.{inSpan, within}
 use Rattle.calendar.specs.Style.{styleLetter}
 use Rattle.calendar.specs.Year.{named}
-use Rattle.words.specs.Numeral.{digit, numeral}
+use Rattle.words.specs.Numeral.{digit, numeral, field}
 use Rattle.words.specs.Text.{space, point, over}
 use Rattle.words.specs.Told.{produced}
 use Rattle.dating.specs.Anchor.{date, spellAnchor, GoodAnchor, anchorDay}
-use Rattle.dating.specs.Answer.{field}
 use Rattle.dating.specs.Line.{Line, spellLine, GoodLine, lineDay, fit, IsDayOfLine}
 use Rattle.dating.specs.Phrase.{plain, spellPhrase, GoodPhrase, anchorOf, wrappersAct, phraseDay}
 use Rattle.dating.specs.Steps.{Put, PutsDate}

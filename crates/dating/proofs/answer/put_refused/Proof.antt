@@ -3,7 +3,8 @@ use native.Mathlib.Omega.{arith}
 use borrow.Author.Needs.{needs}
 use Rattle.dating.proofs.answer.Laws.{digit-field, refusal-digit}
 use Rattle.calendar.specs.Refusal.{refusalNumber}
-use Rattle.dating.specs.Answer.{lineFeed, field}
+use Rattle.words.specs.Numeral.{field}
+use Rattle.dating.specs.Answer.{lineFeed}
 use Rattle.dating.proofs.answer.put_refused.Statement.{statement}
 use Rattle.dating.proofs.answer.put_refused.Tie as tie
 

@@ -20,21 +20,21 @@ add-end : tie.Need-add-end Inv-loop μ-loop
 add-end c =
     let a = c .before .before .args in
     let l = field-length (a .number) (a .behind) in
-    omega (arith, c .digits-of .ensures, c .before .before .pre)
+    omega (arith, c .digit-count .ensures, c .before .before .pre)
 
 slice-write-buffer : tie.Need-slice-write-buffer Inv-loop μ-loop
 slice-write-buffer c =
     let a = c .before .before .args in
     let l = field-length (a .number) (a .behind) in
-    omega (arith, c .digits-of .ensures, c .before .before .pre)
+    omega (arith, c .digit-count .ensures, c .before .before .pre)
 
 loop-holds : tie.Need-loop-holds Inv-loop μ-loop
 loop-holds c =
     let a = c .before .before .args in
     let s = a .buffer .now in
-    let end = a .at + c .digits-of .result in
+    let end = a .at + c .digit-count .result in
     let l = field-length (a .number) (a .behind) in
-    (omega arith, omega (arith, c .digits-of .ensures), rw (length-set s end (a .behind)) (omega (arith, c .digits-of .ensures, c .before .before .pre)), refl, refl)
+    (omega arith, omega (arith, c .digit-count .ensures), rw (length-set s end (a .behind)) (omega (arith, c .digit-count .ensures, c .before .before .pre)), refl, refl)
 
 sub-i : tie.Need-sub-i Inv-loop μ-loop
 sub-i c =
@@ -71,24 +71,24 @@ add-result : tie.Need-add-result Inv-loop μ-loop
 add-result c =
     let a = c .before .before .before .before .args in
     let l = field-length (a .number) (a .behind) in
-    omega (arith, c .before .before .digits-of .ensures, c .before .before .before .before .pre)
+    omega (arith, c .before .before .digit-count .ensures, c .before .before .before .before .pre)
 
 same-length : tie.Need-same-length Inv-loop μ-loop
 same-length c =
     let a = c .before .before .before .before .args in
     let l = c .before .loop in
-    length-set (l .buffer) (a .at) (48 + l .rest) ∙ l .inv .3 ∙ length-set (a .buffer .now) (a .at + c .before .before .digits-of .result) (a .behind)
+    length-set (l .buffer) (a .at) (48 + l .rest) ∙ l .inv .3 ∙ length-set (a .buffer .now) (a .at + c .before .before .digit-count .result) (a .behind)
 
 returns : tie.Need-returns Inv-loop μ-loop
 returns c =
     let a = c .before .before .before .before .args in
     let l = field-length (a .number) (a .behind) in
     record {
-      behind = omega (arith, c .before .before .digits-of .ensures);
+      behind = omega (arith, c .before .before .digit-count .ensures);
       bytes =
           first-digit (c .before .loop .buffer) (a .at) (c .before .loop .rest) (omega (arith, c .loop-test .left))
           ∙ c .before .loop .inv .4
-          ∙ rw (c .before .before .digits-of .ensures) (sets-last (numeral (a .number)) (a .buffer .now) (a .at) (a .behind));
+          ∙ rw (c .before .before .digit-count .ensures) (sets-last (numeral (a .number)) (a .buffer .now) (a .at) (a .behind));
     }
 
 pub put-number-spec : {M : Type 1} → statement M

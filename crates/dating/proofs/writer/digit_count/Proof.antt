@@ -4,8 +4,8 @@ use native.Mathlib.Omega.{arith}
 use lib.ListN.{length}
 use Rattle.words.proofs.numeral.Laws.{one-digit, numeral-length, more-length}
 use Rattle.words.specs.Numeral.{numeral}
-use Rattle.dating.proofs.writer.digits_of.Statement.{statement}
-use Rattle.dating.proofs.writer.digits_of.Tie as tie
+use Rattle.dating.proofs.writer.digit_count.Statement.{statement}
+use Rattle.dating.proofs.writer.digit_count.Tie as tie
 
 abbrev Inv-loop : tie.InvT-loop
 Inv-loop number count₀ rest₀ count rest = (rest ≤ number) × (count + length (numeral rest) ≡ length (numeral number) + 1)
@@ -36,6 +36,6 @@ returns c =
     let k = ap length l in
     omega (arith, (c .before .loop) .inv)
 
-pub digits-of-spec : {M : Type 1} → statement M
-digits-of-spec =
+pub digit-count-spec : {M : Type 1} → statement M
+digit-count-spec =
     tie.close (tie.spec Inv-loop μ-loop loop-holds add-count loop-less loop-again returns)
