@@ -1,19 +1,31 @@
--- What holds of the words and numerals beyond the contracts of their calls: any two answers that a contract allows are equal.
+-- What holds of the words and numerals beyond the contracts of their calls.
 use mathlib.Core.List.{List}
-use mathlib.Core.Path.{_≡_}
-use Prim.Native.Nat.{ℕ}
+use mathlib.Core.Logic.{_↔_}
+use mathlib.Core.Path.{_≡_, subst}
+use Prim.Native.Nat.{ℕ, _-_, _≤_}
+use native.Mathlib.Omega.{arith}
+use lib.ListN.{length}
 use Rattle.words.proofs.Told.{one-told}
-use Rattle.words.proofs.numeral.Laws.{one-numeral}
+use Rattle.words.proofs.numeral.Laws.{one-numeral, numeral-digits, digits-read, whole}
 use Rattle.words.proofs.text.Laws as text-laws
 use Rattle.words.proofs.word.Laws as word-laws
 use Rattle.words.proofs.wrapper.Laws.{one-leading}
-use Rattle.words.specs.Numeral.{numerals}
+use Rattle.words.specs.Numeral.{numeral, YearDigits, numerals}
 use Rattle.words.specs.Text.{BehindLast}
 use Rattle.words.specs.Told.{Told}
 use Rattle.words.specs.Word.{feastWords}
 use Rattle.words.specs.Wrapper.{leadings, lead}
 use Rattle.words.specs.declared.wrapper.Lead.the-variants.{Plain}
 use Rattle.words.specs.declared.wrapper.Lead.{Lead}
+
+-- Bytes are 1 to 4 digits, the first not 0, exactly when they are the numeral of a number from 1 to 9999.
+pub year-digits : (s : List ℕ) → YearDigits s ↔ ((n : ℕ) × (((1 ≤ n) × (n ≤ 9999)) × (numeral n ≡ s)))
+year-digits s = (
+  λ d.
+      let k = digits-read d (length s - 1) (omega (arith, d .some)) in
+      (k .0, ((k .1 .low, k .1 .high), whole (k .1) (omega arith))),
+  λ k. subst YearDigits (k .1 .1) (numeral-digits (k .0) (k .1 .0 .0) (k .1 .0 .1)),
+)
 
 -- Bytes are the numeral of one number.
 pub one-number : (high : ℕ) (s : List ℕ) (r q : ℕ) → Told (numerals high) (λ n. n) 0 s r → Told (numerals high) (λ n. n) 0 s q → r ≡ q

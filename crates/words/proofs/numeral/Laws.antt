@@ -1,5 +1,5 @@
 -- Numerals: what they are made of, by tests that antt computes at each number, and how one grows by a digit.
-use mathlib.Core.Bool.{Bool, true, false, _&&_, _||_, cond}
+use mathlib.Core.Bool.{Bool, true, false, _&&_, _||_, cond, and-eq-true-iff}
 use mathlib.Core.List.{List, [], _∷_, _++_}
 use mathlib.Core.Path.{_≡_, refl, sym, _∙_, ap, subst}
 use Prim.Native.Nat.{ℕ, zero, suc, _+_, _-_, _*_, _/_, _%_, _<_, _≤_}
@@ -13,9 +13,8 @@ use borrow.Author.Tests.{eqb-true, ne-eqb, ltb-true, lt-ltb, le-ltb}
 use Rattle.calendar.proofs.range.Laws.{range}
 use Rattle.words.proofs.Tests.{tested}
 use Rattle.words.proofs.Told.{OneReading}
-use Rattle.words.proofs.text.Laws.{both}
 use Rattle.calendar.specs.Range.{between}
-use Rattle.words.specs.Numeral.{digit, decimal, numeral, numerals}
+use Rattle.words.specs.Numeral.{digit, decimal, numeral, YearDigits, numerals}
 use Rattle.words.specs.Text.{has}
 use Rattle.words.specs.Told.{Told, produced, unproduced}
 
@@ -57,24 +56,17 @@ module _ (n : ℕ) (low : 1 ≤ n) (high : n ≤ 9999) where
   -- a numeral of at most three digits is of a number below 1000
   three-digits : length (numeral n) ≤ 3 → n ≤ 999
   unfolding made
-  three-digits h = small (ltb n 1000) refl (all-made 2)
-    where
-      small : (b : Bool) → ltb n 1000 ≡ b → (b || ltb 3 (length (numeral n))) ≡ true → n ≤ 999
-      small true e f = let l = ltb-true n 1000 e in omega arith
-      small false e f = let l = ltb-true 3 (length (numeral n)) f in absurd (omega arith)
-
--- what any numeral looks like
-pub record Shape (s : List ℕ) : Type 0 where
-  pub some : 1 ≤ length s
-  pub few : length s ≤ 4
-  pub first : 49 ≤ getD s 0 0
-  pub digits : (i : ℕ) → i < length s → (48 ≤ getD s i 0) × (getD s i 0 ≤ 57)
+  three-digits h =
+      elim (decLt n 1000) [
+        | yes l ↦ omega arith
+        | no l ↦ absurd (omega (arith, ltb-true 3 (length (numeral n)) (rw (le-ltb n 1000 (omega arith)) at (all-made 2))))
+      ]
 
 digit-at : (s : List ℕ) → allDigits s ≡ true → (i : ℕ) → i < length s → (48 ≤ getD s i 0) × (getD s i 0 ≤ 57)
 unfolding allDigits isDigit
 digit-at [] e i h = absurd (omega arith)
-digit-at (x ∷ s) e zero h = range 48 x 57 (both (between 48 x 57) (allDigits s) e .0)
-digit-at (x ∷ s) e (suc i) h = digit-at s (both (between 48 x 57) (allDigits s) e .1) i (omega arith)
+digit-at (x ∷ s) e zero h = range 48 x 57 (and-eq-true-iff (between 48 x 57) (allDigits s) .0 e .0)
+digit-at (x ∷ s) e (suc i) h = digit-at s (and-eq-true-iff (between 48 x 57) (allDigits s) .0 e .1) i (omega arith)
 
 pub one-number : (n m : ℕ) → 1 ≤ n → n ≤ 9999 → 1 ≤ m → m ≤ 9999 → numeral n ≡ numeral m → n ≡ m
 one-number n m ln hn lm hm e = sym (stands-for n ln hn) ∙ ap (value 0) e ∙ stands-for m lm hm
@@ -108,13 +100,16 @@ grown n d low high h =
     rw (q, r) at (more-digits (10 * n + d) (omega arith) (omega arith))
 
 -- ---- how many digits a numeral has
-decimal-length : (k n : ℕ) → (1 ≤ length (decimal k n)) × (length (decimal k n) ≤ suc k)
+-- 1 to suc k bytes
+abbrev Counted : ℕ → List ℕ → Type 0
+Counted k s = (1 ≤ length s) × (length s ≤ suc k)
+
+decimal-length : (k n : ℕ) → Counted k (decimal k n)
 unfolding decimal
 decimal-length zero n = (omega arith, omega arith)
 decimal-length (suc k) n = go (ltb n 10) (decimal-length k (n / 10))
   where
-    go : (b : Bool) → (1 ≤ length (decimal k (n / 10))) × (length (decimal k (n / 10)) ≤ suc k)
-        → (1 ≤ length (cond b (digit n ∷ []) (decimal k (n / 10) ++ digit (n % 10) ∷ []))) × (length (cond b (digit n ∷ []) (decimal k (n / 10) ++ digit (n % 10) ∷ [])) ≤ suc (suc k))
+    go : (b : Bool) → Counted k (decimal k (n / 10)) → Counted (suc k) (cond b (digit n ∷ []) (decimal k (n / 10) ++ digit (n % 10) ∷ []))
     go true h = (omega arith, omega arith)
     go false h = let l = length-append (decimal k (n / 10)) (digit (n % 10) ∷ []) in (omega (arith, h), omega (arith, h))
 
@@ -148,48 +143,70 @@ pub seven-digits : (n : ℕ) → n ≤ 9999999 → length (numeral n) ≤ 7
 unfolding tens
 seven-digits n h = short 6 n (omega arith) (omega arith)
 
--- ---- reading, byte by byte
-shape : (n : ℕ) → 1 ≤ n → n ≤ 9999 → Shape (numeral n)
-shape n low high =
+-- ---- reading, digit by digit
+pub numeral-digits : (n : ℕ) → 1 ≤ n → n ≤ 9999 → YearDigits (numeral n)
+numeral-digits n low high =
     let f = ltb-true 48 (getD (numeral n) 0 0) (no-zero n low high) in
-    record { some = numeral-length n .0; few = four-digits n high; first = omega arith; digits = digit-at (numeral n) (all-digits n low high) }
+    record { some = numeral-length n .0; few = four-digits n high; digits = digit-at (numeral n) (all-digits n low high); first = λ e. omega arith }
 
-pub no-numeral : (high : ℕ) (s : List ℕ) → (Shape s → ⊥) → Told (numerals high) (λ n. n) 0 s 0
-no-numeral high s bad = unproduced (λ n g e. bad (subst Shape e (shape n (g .0) (omega (arith, g))))) refl
+pub no-numeral : (high : ℕ) (s : List ℕ) → (YearDigits s → ⊥) → Told (numerals high) (λ n. n) 0 s 0
+no-numeral high s bad = unproduced (λ n g e. bad (subst YearDigits e (numeral-digits n (g .0) (omega (arith, g))))) refl
 
-pub begun : (s : List ℕ) → 1 ≤ length s → 49 ≤ getD s 0 0 → getD s 0 0 ≤ 57 → numeral (getD s 0 0 - 48) ≡ take 1 s
-begun [] some low high = absurd (omega arith)
-begun (x ∷ s) some low high =
+-- the first i of at most four bytes s are the numeral of n
+pub record Sofar (s : List ℕ) (n i : ℕ) : Type 0 where
+  pub few : length s ≤ 4
+  pub inside : i ≤ length s
+  pub low : 1 ≤ n
+  pub high : n ≤ 9999
+  pub is : numeral n ≡ take i s
+
+pub begun : (s : List ℕ) → 1 ≤ length s → length s ≤ 4 → 49 ≤ getD s 0 0 → getD s 0 0 ≤ 57 → Sofar s (getD s 0 0 - 48) 1
+begun [] some few low high = absurd (omega arith)
+begun (x ∷ s) some few low high =
     let e : digit (x - 48) ≡ x = omega arith in
-    one-digit (x - 48) (omega arith) ∙ rw e
+    record { few = few; inside = some; low = omega arith; high = omega arith; is = one-digit (x - 48) (omega arith) ∙ rw e }
 
-module _ (s : List ℕ) (n i : ℕ) (low : 1 ≤ n) (high : n ≤ 9999) (e : numeral n ≡ take i s) where
-  module _ (h : i < length s) (few : length s ≤ 4) where
-    pub room : n ≤ 999
-    room = three-digits n low high (rw (e, length-take-le i s (omega arith)) (omega arith))
-
-    pub longer : 48 ≤ getD s i 0 → getD s i 0 ≤ 57 → numeral (10 * n + (getD s i 0 - 48)) ≡ take (i + 1) s
-    longer l g =
-        let b : digit (getD s i 0 - 48) ≡ getD s i 0 = omega arith in
-        grown n (getD s i 0 - 48) low room (omega arith) ∙ rw (b, e, add-one, take-suc s i 0 h)
+module _ {s : List ℕ} {n i : ℕ} (p : Sofar s n i) where
+  pub longer : i < length s → 48 ≤ getD s i 0 → getD s i 0 ≤ 57 → Sofar s (10 * n + (getD s i 0 - 48)) (i + 1)
+  longer h l g =
+      let small = three-digits n (p .low) (p .high) (rw (p .is, length-take-le i s (p .inside)) (omega (arith, p .few))) in
+      let b : digit (getD s i 0 - 48) ≡ getD s i 0 = omega arith in
+      record {
+        few = p .few;
+        inside = omega arith;
+        low = omega (arith, p .low);
+        high = omega arith;
+        is = grown n (getD s i 0 - 48) (p .low) small (omega arith) ∙ rw (b, p .is, add-one, take-suc s i 0 h);
+      }
 
   module _ (all : length s ≤ i) where
-    whole : numeral n ≡ s
-    whole = e ∙ take-all i s all
+    pub whole : numeral n ≡ s
+    whole = p .is ∙ take-all i s all
 
     pub read : (top : ℕ) → n ≤ top → Told (numerals top) (λ k. k) 0 s n
-    read top h = produced n (low, omega arith) whole refl
+    read top h = produced n (p .low, omega (arith, p .high)) whole refl
 
     pub above : (top : ℕ) → top < n → Told (numerals top) (λ k. k) 0 s 0
     above top h =
-        unproduced (λ k g f. let same = one-number k n (g .0) (omega (arith, g)) low high (f ∙ sym whole) in omega (arith, g)) refl
+        unproduced (λ k g f. let same = one-number k n (g .0) (omega (arith, g)) (p .low) (p .high) (f ∙ sym whole) in omega (arith, g)) refl
+
+-- the first suc i of such digits are a numeral
+pub digits-read : {s : List ℕ} → YearDigits s → (i : ℕ) → i < length s → (n : ℕ) × Sofar s n (i + 1)
+digits-read {s} d zero h =
+    let x = d .digits 0 h in
+    let f = d .first in
+    (getD s 0 0 - 48, begun s h (d .few) (omega arith) (x .1))
+digits-read {s} d (suc i) h =
+    let k = digits-read d i (omega arith) in
+    let x = d .digits (suc i) h in
+    (10 * k .0 + (getD s (suc i) 0 - 48), longer (rw add-one at (k .1)) h (x .0) (x .1))
 
 -- ---- what stands in no numeral
 no-digit : (c : ℕ) (s : List ℕ) → c < 48 → allDigits s ≡ true → has c s ≡ false
 unfolding has allDigits isDigit
 no-digit c [] h e = refl
 no-digit c (x ∷ s) h e =
-    let b = both (between 48 x 57) (allDigits s) e in
+    let b = and-eq-true-iff (between 48 x 57) (allDigits s) .0 e in
     let d = range 48 x 57 (b .0) in
     rw (ne-eqb x c (omega arith)) (no-digit c s h (b .1))
 

@@ -1,15 +1,13 @@
-use mathlib.Core.Path.{_≡_}
-use Prim.Native.Nat.{_-_, _≤_}
+use Prim.Native.Nat.{_-_}
 use native.Mathlib.Omega.{arith}
-use lib.ListN.{length, take}
+use lib.ListN.{length}
 use borrow.Author.Needs.{needs}
-use Rattle.words.proofs.numeral.Laws.{no-numeral, begun, room, longer, read, above}
-use Rattle.words.specs.Numeral.{numeral}
+use Rattle.words.proofs.numeral.Laws.{no-numeral, Sofar, begun, longer, read, above}
 use Rattle.words.proofs.numeral.number_of.Statement.{statement}
 use Rattle.words.proofs.numeral.number_of.Tie as tie
 
 abbrev Inv-loop : tie.InvT-loop
-Inv-loop text high first n₀ i₀ n i = (1 ≤ i) × (i ≤ length text) × (length text ≤ 4) × (1 ≤ n) × (n ≤ 9999) × (numeral n ≡ take i text)
+Inv-loop text high first n₀ i₀ n i = Sofar text n i
 
 abbrev μ-loop : tie.MeasureT-loop
 μ-loop text high first n₀ i₀ n i = length text - i
@@ -21,16 +19,13 @@ returns-2 : tie.Need-returns-2 Inv-loop μ-loop
 returns-2 c = no-numeral _ _ (λ l. omega (arith, l .few, c .if2 .taken))
 
 returns-3 : tie.Need-returns-3 Inv-loop μ-loop
-returns-3 c = no-numeral _ _ (λ l. omega (arith, l .first, c .if3 .taken))
+returns-3 c = no-numeral _ _ (λ l. omega (arith, l .first, l .digits 0 (l .some), c .if3 .taken))
 
 returns-4 : tie.Need-returns-4 Inv-loop μ-loop
 returns-4 c = no-numeral _ _ (λ l. omega (arith, l .digits 0 (l .some), c .if4 .taken))
 
 loop-holds : tie.Need-loop-holds Inv-loop μ-loop
-loop-holds c =
-    let s = c .before .before .before .before .before .args .text .now in
-    let some : 1 ≤ length s = omega arith in
-    (omega arith, some, c .before .before .before .if2 .left, omega arith, omega arith, begun s some (c .before .if3 .left) (c .if4 .left))
+loop-holds c = begun _ (omega arith) (c .before .before .before .if2 .left) (c .before .if3 .left) (c .if4 .left)
 
 returns-5 : tie.Need-returns-5 Inv-loop μ-loop
 returns-5 c =
@@ -48,20 +43,13 @@ add-n c = omega (arith, c .before .before .before .before .loop .inv)
 
 loop-again : tie.Need-loop-again Inv-loop μ-loop
 loop-again c =
-    let s = c .before .before .before .before .before .before .before .before .before .before .args .text .now in
-    let inv = c .before .before .before .before .loop .inv in
-    let small = room s (c .before .before .before .before .loop .n) (c .before .before .before .before .loop .i) (inv .3) (inv .4) (inv .5) (c .before .before .before .loop-test .taken) (inv .2) in
-    (omega arith, omega arith, inv .2, omega arith, omega arith, longer s (c .before .before .before .before .loop .n) (c .before .before .before .before .loop .i) (inv .3) (inv .4) (inv .5) (c .before .before .before .loop-test .taken) (inv .2) (c .before .if5 .left) (c .if6 .left))
+    longer (c .before .before .before .before .loop .inv) (c .before .before .before .loop-test .taken) (c .before .if5 .left) (c .if6 .left)
 
 returns-7 : tie.Need-returns-7 Inv-loop μ-loop
-returns-7 c =
-    let inv = c .before .before .loop .inv in
-    above _ _ _ (inv .3) (inv .4) (inv .5) (c .before .loop-test .left) _ (c .if7 .taken)
+returns-7 c = above (c .before .before .loop .inv) (c .before .loop-test .left) _ (c .if7 .taken)
 
 returns-8 : tie.Need-returns-8 Inv-loop μ-loop
-returns-8 c =
-    let inv = c .before .before .loop .inv in
-    read _ _ _ (inv .3) (inv .4) (inv .5) (c .before .loop-test .left) _ (c .if7 .left)
+returns-8 c = read (c .before .before .loop .inv) (c .before .loop-test .left) _ (c .if7 .left)
 
 pub number-of-spec : {M : Type 1} → statement M
 number-of-spec =
