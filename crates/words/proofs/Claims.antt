@@ -7,7 +7,7 @@ use native.Mathlib.Omega.{arith}
 use lib.ListN.{length}
 use Rattle.words.proofs.Told.{one-told}
 use Rattle.words.proofs.numeral.Laws.{one-numeral, numeral-digits, digits-read, whole}
-use Rattle.words.proofs.text.Laws as text-laws
+use Rattle.words.proofs.text.Laws.{not-later}
 use Rattle.words.proofs.word.Laws as word-laws
 use Rattle.words.proofs.wrapper.Laws.{one-leading}
 use Rattle.words.specs.Numeral.{numeral, YearDigits, numerals}
@@ -41,4 +41,4 @@ one-lead s r q h k = one-told one-leading r q h k
 
 -- Bytes have one place behind the last of a kind.
 pub one-place : (c : ℕ) (s : List ℕ) (i j : ℕ) → BehindLast c s i → BehindLast c s j → i ≡ j
-one-place c s i j h k = text-laws.one-place c s i j h k
+one-place c s i j h k = omega (arith, not-later c s i j h k, not-later c s j i k h)

@@ -1,6 +1,7 @@
 -- Words at the start of bytes, and bytes cut behind the last of a kind.
-use mathlib.Core.Bool.{Bool, true, false, _&&_, _||_, cond}
+use mathlib.Core.Bool.{Bool, true, false, _&&_, _||_, and-false, or-true, and-assoc, and-eq-true-iff}
 use mathlib.Core.List.{List, [], _∷_, _++_, append-nil}
+use mathlib.Core.Logic.{_⊎_, inl, inr}
 use mathlib.Core.Path.{_≡_, refl, sym, _∙_, ap, ap₂}
 use Prim.Native.Nat.{ℕ, suc, _+_, _-_, _<_, _≤_}
 use native.Mathlib.Decide.{decLt}
@@ -16,13 +17,13 @@ use Rattle.words.specs.Text.{has, BehindLast}
 pub no-false : {A : Type 0} → true ≡ false → A
 no-false e = let z : _≡_ {A = ℕ} 0 1 = cc in absurd (omega arith)
 
-pub both : (a b : Bool) → (a && b) ≡ true → (a ≡ true) × (b ≡ true)
-both true b e = (refl, e)
-both false b e = no-false (sym e)
+pub either : (b : Bool) → (b ≡ true) ⊎ (b ≡ false)
+either true = inl refl
+either false = inr refl
 
-not-both : (a : Bool) {b : Bool} → b ≡ false → (a && b) ≡ false
-not-both true e = e
-not-both false e = refl
+pub neither : (a : Bool) {b : Bool} → (a || b) ≡ false → (a ≡ false) × (b ≡ false)
+neither true h = no-false h
+neither false h = (refl, h)
 
 -- ---- what stands at the start
 pub too-short : (w s : List ℕ) → length s < length w → starts w s ≡ false
@@ -30,7 +31,7 @@ unfolding starts
 too-short [] [] h = absurd (omega arith)
 too-short [] (y ∷ s) h = absurd (omega arith)
 too-short (x ∷ w) [] h = refl
-too-short (x ∷ w) (y ∷ s) h = not-both (eqb x y) (too-short w s (omega arith))
+too-short (x ∷ w) (y ∷ s) h = rw (too-short w s (omega arith)) (and-false (eqb x y))
 
 module _ (w s : List ℕ) (i : ℕ) (hw : i < length w) (hs : i < length s) where
   pub differ : (getD s i 0 ≡ getD w i 0 → ⊥) → starts (drop i w) (drop i s) ≡ false
@@ -55,7 +56,7 @@ unfolding starts
 begun [] s e = refl
 begun (x ∷ w) [] e = no-false (sym e)
 begun (x ∷ w) (y ∷ s) e =
-    let b = both (eqb x y) (starts w s) e in
+    let b = and-eq-true-iff (eqb x y) (starts w s) .0 e in
     ap₂ (λ (a : ℕ) (l : List ℕ). a ∷ l) (eqb-true x y (b .0)) (begun w s (b .1))
 
 pub same-byte : (w s : List ℕ) (i : ℕ) → starts w s ≡ true → i < length w → getD s i 0 ≡ getD w i 0
@@ -71,46 +72,34 @@ pub starts-both : (a b s : List ℕ) → starts (a ++ b) s ≡ (starts a s && st
 unfolding starts
 starts-both [] b s = refl
 starts-both (x ∷ a) b [] = refl
-starts-both (x ∷ a) b (y ∷ s) = go (eqb x y) (starts-both a b s)
-  where
-    go : (p : Bool) → starts (a ++ b) s ≡ (starts a s && starts b (drop (length a) s)) → (p && starts (a ++ b) s) ≡ ((p && starts a s) && starts b (drop (length a) s))
-    go true e = e
-    go false e = refl
+starts-both (x ∷ a) b (y ∷ s) = rw (starts-both a b s) (sym (and-assoc (eqb x y) (starts a s) (starts b (drop (length a) s))))
 
 -- what is taken tells whether the word stands there
 module _ (w s : List ℕ) where
   pub stands-not : 1 ≤ length w → taken w s ≡ 0 → starts w s ≡ false
-  stands-not some e = go (starts w s) refl e
-    where
-      go : (b : Bool) → starts w s ≡ b → cond b (length w) 0 ≡ 0 → starts w s ≡ false
-      go true h z = absurd (omega arith)
-      go false h z = h
+  stands-not some e =
+      elim (either (starts w s)) [
+        | inl h ↦ absurd (omega (arith, rw h at e))
+        | inr h ↦ h
+      ]
 
   pub stands : (taken w s ≡ 0 → ⊥) → (starts w s ≡ true) × (taken w s ≡ length w)
-  stands some = go (starts w s) refl some
-    where
-      go : (b : Bool) → starts w s ≡ b → (cond b (length w) 0 ≡ 0 → ⊥) → (starts w s ≡ true) × (taken w s ≡ length w)
-      go true h z = (h, rw h)
-      go false h z = absurd (z refl)
+  stands some =
+      elim (either (starts w s)) [
+        | inl h ↦ (h, rw h)
+        | inr h ↦ absurd (some (rw h))
+      ]
 
 -- ---- what a byte does not stand in
 pub has-append : (c : ℕ) (a b : List ℕ) → has c a ≡ false → has c b ≡ false → has c (a ++ b) ≡ false
 unfolding has
 has-append c [] b ha hb = hb
-has-append c (x ∷ a) b ha hb = step (eqb x c) (has c a) (has c (a ++ b)) ha (λ h. has-append c a b h hb)
-  where
-    step : (p q r : Bool) → (p || q) ≡ false → (q ≡ false → r ≡ false) → (p || r) ≡ false
-    step true q r e h = no-false e
-    step false q r e h = h e
+has-append c (x ∷ a) b ha hb = let no = neither (eqb x c) ha in rw (no .0) (has-append c a b (no .1) hb)
 
 pub has-here : (c : ℕ) (a b : List ℕ) → has c (a ++ c ∷ b) ≡ true
 unfolding has
 has-here c [] b = rw (eq-eqb c c refl)
-has-here c (x ∷ a) b = or-true (eqb x c) (has-here c a b)
-  where
-    or-true : (p : Bool) {q : Bool} → q ≡ true → (p || q) ≡ true
-    or-true true e = refl
-    or-true false e = e
+has-here c (x ∷ a) b = rw (has-here c a b) (or-true (eqb x c))
 
 -- bytes are cut behind the last c in one way
 pub one-cut : (c : ℕ) (a b u v : List ℕ) → has c u ≡ false → has c v ≡ false → a ++ c ∷ u ≡ b ++ c ∷ v → (a ≡ b) × (u ≡ v)
@@ -158,21 +147,14 @@ module _ (c : ℕ) (s : List ℕ) (i : ℕ) (b : BehindLast c s i) where
             no-false (sym (has-here c a u) ∙ ap (has c) e ∙ rw z at (b .behind))
       ]
 
-same-place : (c : ℕ) (s : List ℕ) (i j : ℕ) → BehindLast c s i → BehindLast c s j → 0 < i → i ≡ j
-same-place c s i j b d low =
-    let k = known-cut c s j d (take (i - 1) s) (drop i s) (b .behind) (cut c s i b low) in
-    let count = sym (length-drop i s) ∙ ap length (k .2) ∙ length-drop j s in
-    omega (arith, b .inside, d .inside)
-
-pub one-place : (c : ℕ) (s : List ℕ) (i j : ℕ) → BehindLast c s i → BehindLast c s j → i ≡ j
-one-place c s i j b d =
+pub not-later : (c : ℕ) (s : List ℕ) (i j : ℕ) → BehindLast c s i → BehindLast c s j → i ≤ j
+not-later c s i j b d =
     elim (decLt 0 i) [
-      | yes low ↦ same-place c s i j b d low
-      | no at-start ↦
-          elim (decLt 0 j) [
-            | yes low ↦ sym (same-place c s j i d b low)
-            | no also ↦ omega arith
-          ]
+      | yes low ↦
+          let k = known-cut c s j d (take (i - 1) s) (drop i s) (b .behind) (cut c s i b low) in
+          let count = sym (length-drop i s) ∙ ap length (k .2) ∙ length-drop j s in
+          omega (arith, b .inside, d .inside)
+      | no at-start ↦ omega arith
     ]
 
 -- ---- parts of bytes

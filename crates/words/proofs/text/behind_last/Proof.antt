@@ -20,11 +20,13 @@ loop-holds c = (omega arith, has-none _ (c .args .text .now))
 
 returns : tie.Need-returns Inv-loop μ-loop
 returns c =
-    record { inside = c .before .before .before .loop .inv .0; behind = c .before .before .before .loop .inv .1; last = λ low. c .if1 .taken }
+    let inv = c .before .before .before .loop .inv in
+    record { inside = inv .0; behind = inv .1; last = λ low. c .if1 .taken }
 
 loop-again : tie.Need-loop-again Inv-loop μ-loop
 loop-again c =
-    (omega arith, has-back _ _ _ (c .before .before .loop-test .taken) (c .before .before .before .loop .inv .0) (c .if1 .left) (c .before .before .before .loop .inv .1))
+    let inv = c .before .before .before .loop .inv in
+    (omega arith, has-back _ _ _ (c .before .before .loop-test .taken) (inv .0) (c .if1 .left) (inv .1))
 
 returns-2 : tie.Need-returns-2 Inv-loop μ-loop
 returns-2 c =

@@ -22,11 +22,13 @@ loop-holds c = (omega arith, omega arith, refl)
 
 returns-2 : tie.Need-returns-2 Inv-loop μ-loop
 returns-2 c =
-    sym (c .before .before .before .before .loop .inv .2 ∙ differ _ _ (c .before .before .before .before .loop .i) (omega arith) (omega arith) (c .if2 .taken))
+    let l = c .before .before .before .before .loop in
+    sym (l .inv .2 ∙ differ _ _ (l .i) (omega arith) (omega arith) (c .if2 .taken))
 
 loop-again : tie.Need-loop-again Inv-loop μ-loop
 loop-again c =
-    (omega arith, omega arith, c .before .before .before .before .loop .inv .2 ∙ agree _ _ (c .before .before .before .before .loop .i) (omega arith) (omega arith) (c .if2 .left))
+    let l = c .before .before .before .before .loop in
+    (omega arith, omega arith, l .inv .2 ∙ agree _ _ (l .i) (omega arith) (omega arith) (c .if2 .left))
 
 returns-3 : tie.Need-returns-3 Inv-loop μ-loop
 returns-3 c = sym (c .before .loop .inv .2 ∙ compared _ _ _ (c .loop-test .left))
