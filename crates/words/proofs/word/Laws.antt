@@ -1,29 +1,41 @@
 -- Feast words: each is cut out of their text where the table says, and told apart from all others.
 use mathlib.Core.Bool.{Bool, true, false, not}
-use mathlib.Core.List.{List, [], _∷_, append-nil}
+use mathlib.Core.List.{List, [], _∷_, _++_, append-nil}
 use mathlib.Core.Path.{_≡_, refl, sym, _∙_, ap}
+use Prim.Native.Char.{code}
 use Prim.Native.Nat.{ℕ, _+_, _-_, _*_, _%_, _<_, _≤_}
 use native.Mathlib.Omega.{arith}
 use lib.Dec.{eqb, leb, leb→le}
 use lib.ListN.{length, take, drop, getD}
-use borrow.Author.Tests.{eqb-true, leb-true, not-true}
+use borrow.Author.Tests.{eqb-true, leb-true, not-true, not-false}
 use Rattle.calendar.proofs.Each.{below}
 use Rattle.calendar.proofs.range.Laws.{range}
-use Rattle.words.proofs.Tests.{tested}
+use Rattle.words.proofs.Tests.{tested, slots}
 use Rattle.words.proofs.Told.{OneReading}
 use Rattle.words.proofs.text.Laws.{no-false, same-bytes, starts-append}
 use Rattle.calendar.specs.Range.{between}
+use Rattle.church.specs.Feast.{Feast, feasts}
 use Rattle.words.specs.Steps.{starts, Tells, Guess}
 use Rattle.words.specs.Text.{bytes, space, point, has}
 use Rattle.words.specs.Told.{Told, produced, unproduced}
-use Rattle.words.specs.Word.{feastWord, feastWords}
+use Rattle.words.specs.Word.{wordOf, feastWord, feastWords}
 
 -- ---- the text of the words
+-- where each word begins, and where one more would
+abbrev placesFrom : ℕ → List Feast → List ℕ
+placesFrom n [] = n ∷ []
+placesFrom n (f ∷ fs) = n ∷ placesFrom (n + length (bytes (wordOf f)) + 1) fs
+
 abbrev pub places : List ℕ
-places = 0 ∷ 13 ∷ 24 ∷ 33 ∷ 39 ∷ 49 ∷ 61 ∷ 67 ∷ 75 ∷ 82 ∷ 88 ∷ 93 ∷ 103 ∷ 110 ∷ 120 ∷ 133 ∷ 142 ∷ 150 ∷ 157 ∷ 167 ∷ 174 ∷ 184 ∷ 192 ∷ 199 ∷ 212 ∷ 221 ∷ 231 ∷ 240 ∷ 253 ∷ 258 ∷ 265 ∷ 273 ∷ 279 ∷ 289 ∷ 295 ∷ 304 ∷ 315 ∷ 327 ∷ 335 ∷ 343 ∷ 348 ∷ 354 ∷ 361 ∷ 368 ∷ 375 ∷ 384 ∷ 391 ∷ 401 ∷ 408 ∷ []
+places = placesFrom 0 feasts
+
+-- the words, a comma before each
+abbrev listed : List Feast → List ℕ
+listed [] = []
+listed (f ∷ fs) = code "," ∷ (bytes (wordOf f) ++ listed fs)
 
 abbrev pub text : List ℕ
-text = bytes "septuagesima,sexagesima,estomihi,ashes,invocavit,reminiscere,oculi,laetare,judica,palms,cena,parasceve,easter,quasimodo,misericordia,jubilate,cantate,rogate,ascension,exaudi,pentecost,trinity,corpus,circumcision,epiphany,candlemas,matthias,annunciation,mark,philip,baptist,peter,magdalene,james,laurence,assumption,bartholomew,matthew,michael,luke,simon,saints,martin,andrew,nicholas,thomas,christmas,advent"
+text = drop 1 (listed feasts)
 
 abbrev pub begin : ℕ → ℕ
 begin n = getD places (n - 1) 0
@@ -45,26 +57,18 @@ found n =
     ∷ eqb (length (cutOut n)) (end n - begin n)
     ∷ []
 
-module _ (n : ℕ) (low : 1 ≤ n) (high : n ≤ 48) where
+module _ {n : ℕ} (good : (1 ≤ n) × (n ≤ 48)) where
   all-found : (i : ℕ) → getD (found n) i true ≡ true
   unfolding found starts
-  all-found i = tested found 48 tt n low high i
+  all-found i = tested found 48 tt n (good .0) (good .1) i
 
   its-bytes : cutOut n ≡ feastWord n
   unfolding found
   its-bytes = same-bytes (cutOut n) (feastWord n) (all-found 0) (eqb-true _ _ (all-found 1))
 
-  pub behind-start : 1 ≤ getD places n 0
+  pub in-text : (1 ≤ getD places n 0) × (begin n ≤ end n) × (end n ≤ 407)
   unfolding found
-  behind-start = leb-true 1 (getD places n 0) (all-found 2)
-
-  pub begins : begin n ≤ end n
-  unfolding found
-  begins = leb-true (begin n) (end n) (all-found 3)
-
-  pub ends : end n ≤ 407
-  unfolding found
-  ends = leb-true (end n) 407 (all-found 4)
+  in-text = (leb-true 1 (getD places n 0) (all-found 2), leb-true (begin n) (end n) (all-found 3), leb-true (end n) 407 (all-found 4))
 
   its-count : length (cutOut n) ≡ end n - begin n
   unfolding found
@@ -83,11 +87,11 @@ module _ (n : ℕ) (low : 1 ≤ n) (high : n ≤ 48) where
         stands-there same = rw (its-bytes, ← same) (rw append-nil at (starts-append (feastWord n) []))
 
 -- ---- one feast word alone may be the bytes, told by two of them and their number
-abbrev pub feastAt : List ℕ
-feastAt = 0 ∷ 0 ∷ 0 ∷ 23 ∷ 11 ∷ 30 ∷ 0 ∷ 0 ∷ 29 ∷ 28 ∷ 0 ∷ 0 ∷ 19 ∷ 44 ∷ 0 ∷ 0 ∷ 48 ∷ 0 ∷ 0 ∷ 0 ∷ 0 ∷ 36 ∷ 0 ∷ 22 ∷ 0 ∷ 33 ∷ 0 ∷ 0 ∷ 0 ∷ 0 ∷ 0 ∷ 0 ∷ 0 ∷ 0 ∷ 4 ∷ 8 ∷ 0 ∷ 0 ∷ 0 ∷ 0 ∷ 42 ∷ 9 ∷ 31 ∷ 0 ∷ 41 ∷ 0 ∷ 0 ∷ 0 ∷ 0 ∷ 17 ∷ 16 ∷ 2 ∷ 0 ∷ 27 ∷ 34 ∷ 0 ∷ 0 ∷ 0 ∷ 0 ∷ 0 ∷ 0 ∷ 0 ∷ 26 ∷ 13 ∷ 0 ∷ 15 ∷ 20 ∷ 35 ∷ 5 ∷ 1 ∷ 0 ∷ 0 ∷ 38 ∷ 0 ∷ 0 ∷ 14 ∷ 0 ∷ 46 ∷ 32 ∷ 40 ∷ 0 ∷ 12 ∷ 3 ∷ 0 ∷ 21 ∷ 0 ∷ 0 ∷ 0 ∷ 0 ∷ 0 ∷ 0 ∷ 43 ∷ 0 ∷ 0 ∷ 0 ∷ 6 ∷ 0 ∷ 0 ∷ 0 ∷ 0 ∷ 0 ∷ 45 ∷ 0 ∷ 0 ∷ 47 ∷ 0 ∷ 25 ∷ 24 ∷ 37 ∷ 0 ∷ 10 ∷ 0 ∷ 0 ∷ 0 ∷ 0 ∷ 7 ∷ 0 ∷ 0 ∷ 0 ∷ 0 ∷ 39 ∷ 0 ∷ 0 ∷ 0 ∷ 18 ∷ 0 ∷ 0 ∷ 0 ∷ []
-
 abbrev pub slotOf : List ℕ → ℕ
 slotOf s = (6 * getD s 1 0 + 7 * getD s (length s - 2) 0 + 9 * length s) % 128
+
+abbrev pub feastAt : List ℕ
+feastAt = slots (λ n. slotOf (feastWord n)) 128 48
 
 -- what holds of each feast word: its slot, its length, and no space or point in it
 worded : ℕ → List Bool
@@ -131,21 +135,22 @@ guess s = record {
 pub no-guess : (s : List ℕ) → ((4 ≤ length s) × (length s ≤ 12) → ⊥) → Guess 48 (Names s) 0
 no-guess s h = record { small = omega arith; only = λ n low high e. absurd (h (rw e at (feast-length n low high))) }
 
-module _ (s : List ℕ) (r : ℕ) (g : Guess 48 (Names s) r) where
+module _ (s : List ℕ) {r : ℕ} (g : Guess 48 (Names s) r) where
   no-feast : (1 ≤ r → feastWord r ≡ s → ⊥) → Told feastWords (λ n. n) 0 s 0
   no-feast differs =
       unproduced (λ n good e.
       let same = g .only n (good .0) (good .1) e in
       differs (omega (arith, good)) (rw (← same) at e)) refl
 
-  pub not-it : (feastWord r ≡ s → ⊥) → Told feastWords (λ n. n) 0 s 0
-  not-it differs = no-feast (λ low e. differs e)
+  pub guess-none : r ≡ 0 → Told feastWords (λ n. n) 0 s 0
+  guess-none z = no-feast (λ low e. omega arith)
 
-  pub is-it : 1 ≤ r → feastWord r ≡ s → Told feastWords (λ n. n) 0 s r
-  is-it low e = produced r (low, g .small) e refl
+  module _ (b : Bool) (tells : Tells b (feastWord r ≡ s)) where
+    pub not-it : not b ≡ true → Told feastWords (λ n. n) 0 s 0
+    not-it e = no-feast (λ low. rw (not-true b e) at tells)
 
-pub guess-none : (s : List ℕ) (r : ℕ) → Guess 48 (Names s) r → r ≡ 0 → Told feastWords (λ n. n) 0 s 0
-guess-none s r g z = no-feast s r g (λ low e. omega arith)
+    pub is-it : not b ≡ false → 1 ≤ r → Told feastWords (λ n. n) 0 s r
+    is-it e low = produced r (low, g .small) (rw (not-false b e) at tells) refl
 
 pub one-feast : OneReading feastWords
 one-feast n m g h e =
