@@ -1,20 +1,21 @@
 -- What holds of the words and numerals beyond the contracts of their calls.
-use mathlib.Core.List.{List}
+use mathlib.Core.List.{List, _++_}
 use mathlib.Core.Logic.{_↔_}
-use mathlib.Core.Path.{_≡_, subst}
+use mathlib.Core.Path.{_≡_, refl, ap, subst}
 use Prim.Native.Nat.{ℕ, _-_, _≤_}
 use native.Mathlib.Omega.{arith}
-use lib.ListN.{length}
+use lib.ListN.{length, drop}
+use lib.Seq.{drop-append-seam}
 use Rattle.words.proofs.Told.{one-told}
 use Rattle.words.proofs.numeral.Laws.{one-numeral, numeral-digits, digits-read, whole}
 use Rattle.words.proofs.text.Laws.{not-later}
 use Rattle.words.proofs.word.Laws as word-laws
-use Rattle.words.proofs.wrapper.Laws.{one-leading}
+use Rattle.words.proofs.wrapper.Laws.{one-leading, words-some}
 use Rattle.words.specs.Numeral.{numeral, YearDigits, numerals}
 use Rattle.words.specs.Text.{BehindLast}
-use Rattle.words.specs.Told.{Told}
+use Rattle.words.specs.Told.{Told, produced, unproduced}
 use Rattle.words.specs.Word.{feastWords}
-use Rattle.words.specs.Wrapper.{leadings, lead}
+use Rattle.words.specs.Wrapper.{wrapperWords, GoodWrapper, Leading, leadings, lead, leadWords, leadLength}
 use Rattle.words.specs.declared.wrapper.Lead.the-variants.{Plain}
 use Rattle.words.specs.declared.wrapper.Lead.{Lead}
 
@@ -38,6 +39,18 @@ one-feast s r q h k = one-told word-laws.one-feast r q h k
 -- A phrase begins with the words of one wrapper.
 pub one-lead : (s : List ℕ) (r q : Lead) → Told leadings lead Plain s r → Told leadings lead Plain s q → r ≡ q
 one-lead s r q h k = one-told one-leading r q h k
+
+-- The words that a phrase is told to begin with stand at its start, and their number of bytes is told.
+pub lead-stands : (s : List ℕ) (r : Lead) → Told leadings lead Plain s r
+    → (leadWords r ++ drop (leadLength r) s ≡ s) × (leadLength r ≡ length (leadWords r))
+lead-stands s r (produced x g e m) = rw (m, ← e) (rw (drop-append-seam (wrapperWords (x .wrapper)) (x .rest)), refl)
+lead-stands s r (unproduced n m) = rw m (refl, refl)
+
+-- The number of bytes is 0 exactly when no wrapper's words stand there.
+pub lead-none : (s : List ℕ) (r : Lead) → Told leadings lead Plain s r
+    → (leadLength r ≡ 0) ↔ ((x : Leading) → GoodWrapper (x .wrapper) → wrapperWords (x .wrapper) ++ x .rest ≡ s → ⊥)
+lead-none s r (produced x g e m) = (λ z. absurd (omega (arith, words-some (x .wrapper), ap leadLength m)), λ none. absurd (none x g e))
+lead-none s r (unproduced n m) = (λ z. n, λ none. ap leadLength m)
 
 -- Bytes have one place behind the last of a kind.
 pub one-place : (c : ℕ) (s : List ℕ) (i j : ℕ) → BehindLast c s i → BehindLast c s j → i ≡ j

@@ -7,7 +7,7 @@ use Rattle.words.specs.Text.{bytes}
 use Rattle.words.specs.Told.{Grammar}
 use Rattle.calendar.specs.declared.weekday.Side.the-variants.{After, Before}
 use Rattle.calendar.specs.declared.weekday.Side.{Side}
-use Rattle.words.specs.declared.wrapper.Lead.the-variants.{Wrapped}
+use Rattle.words.specs.declared.wrapper.Lead.the-variants.{Wrapped, Plain}
 use Rattle.words.specs.declared.wrapper.Lead.{Lead}
 use Rattle.words.specs.declared.wrapper.Wrapper.the-variants.{Eve, Morrow, Octave, First}
 use Rattle.words.specs.declared.wrapper.Wrapper.{Wrapper}
@@ -49,3 +49,12 @@ leadings = record { Tree = Leading; Good = λ x. GoodWrapper (x .wrapper); spell
 -- the wrapper, and how many bytes its words take
 abbrev pub lead : Leading → Lead
 lead x = Wrapped (x .wrapper) (length (wrapperWords (x .wrapper)))
+
+-- the words that are told to stand at a phrase's start, and how many bytes they have
+abbrev pub leadWords : Lead → List ℕ
+leadWords (Wrapped w n) = wrapperWords w
+leadWords Plain = []
+
+abbrev pub leadLength : Lead → ℕ
+leadLength (Wrapped w n) = n
+leadLength Plain = 0

@@ -1,5 +1,5 @@
 -- Wrappers: by their numbers, told apart by three bytes, and each ends in a space.
-use mathlib.Core.Bool.{Bool, true, false, _&&_, cond}
+use mathlib.Core.Bool.{Bool, true, false, cond, and-false}
 use mathlib.Core.List.{List, [], _∷_, _++_, append-assoc}
 use mathlib.Core.Path.{_≡_, refl, sym, _∙_, ap, ap₂}
 use Prim.Native.Nat.{ℕ, _+_, _-_, _*_, _%_, _<_, _≤_}
@@ -9,7 +9,7 @@ use lib.ListN.{length, take, drop, getD, length-append}
 use lib.Seq.{drop-append-seam}
 use borrow.Author.Tests.{eqb-true, leb-true, ltb-true, ltb-false, lt-ltb, le-ltb}
 use Rattle.calendar.proofs.Each.{below}
-use Rattle.words.proofs.Tests.{tested}
+use Rattle.words.proofs.Tests.{tested, slots}
 use Rattle.words.proofs.Told.{OneReading}
 use Rattle.words.proofs.text.Laws.{no-false, too-short, begun, same-byte, same-bytes, starts-append, starts-both, stands, stands-not}
 use Rattle.words.specs.Steps.{starts, taken, Guess, wrapperOf}
@@ -30,21 +30,21 @@ numberOf Octave = 3
 numberOf (First After w) = w + 3
 numberOf (First Before w) = w + 10
 
+-- from 4 on they are a weekday's
+pub from-four : (n : ℕ) → 4 ≤ n → wrapperOf n ≡ cond (ltb n 11) (First After (n - 3)) (First Before (n - 10))
+from-four n h = rw (le-ltb n 2 (omega arith), le-ltb n 3 (omega arith), le-ltb n 4 h)
+
 numbered : (w : Wrapper) → GoodWrapper w → ((1 ≤ numberOf w) × (numberOf w ≤ 17)) × (wrapperOf (numberOf w) ≡ w)
 unfolding numberOf
 numbered Eve g = ((omega arith, omega arith), refl)
 numbered Morrow g = ((omega arith, omega arith), refl)
 numbered Octave g = ((omega arith, omega arith), refl)
 numbered (First After w) g =
-    let e : w + 3 - 3 ≡ w = omega arith in (
-      (omega arith, omega (arith, g)),
-      rw (le-ltb (w + 3) 2 (omega arith), le-ltb (w + 3) 3 (omega arith), le-ltb (w + 3) 4 (omega (arith, g)), lt-ltb (w + 3) 11 (omega (arith, g)), e),
-    )
+    let e : w + 3 - 3 ≡ w = omega arith in
+    ((omega arith, omega (arith, g)), from-four (w + 3) (omega (arith, g)) ∙ rw (lt-ltb (w + 3) 11 (omega (arith, g)), e))
 numbered (First Before w) g =
-    let e : w + 10 - 10 ≡ w = omega arith in (
-      (omega arith, omega (arith, g)),
-      rw (le-ltb (w + 10) 2 (omega arith), le-ltb (w + 10) 3 (omega arith), le-ltb (w + 10) 4 (omega arith), le-ltb (w + 10) 11 (omega (arith, g)), e),
-    )
+    let e : w + 10 - 10 ≡ w = omega arith in
+    ((omega arith, omega (arith, g)), from-four (w + 10) (omega arith) ∙ rw (le-ltb (w + 10) 11 (omega (arith, g)), e))
 
 pub good-number : (n : ℕ) → n ≤ 17 → GoodWrapper (wrapperOf n)
 good-number n h = go (ltb n 2) (ltb n 3) (ltb n 4) (ltb n 11) refl refl
@@ -58,12 +58,11 @@ good-number n h = go (ltb n 2) (ltb n 3) (ltb n 4) (ltb n 11) refl refl
     go false false false false p q = (omega (arith, ltb-false n 11 q), omega arith)
 
 -- ---- one wrapper alone may stand at the start, told by three bytes
-abbrev pub wrapperAt : List ℕ
-wrapperAt =
-    3 ∷ 0 ∷ 0 ∷ 6 ∷ 13 ∷ 2 ∷ 0 ∷ 0 ∷ 0 ∷ 7 ∷ 14 ∷ 9 ∷ 16 ∷ 0 ∷ 0 ∷ 0 ∷ 0 ∷ 1 ∷ 0 ∷ 0 ∷ 0 ∷ 8 ∷ 15 ∷ 4 ∷ 11 ∷ 0 ∷ 0 ∷ 10 ∷ 17 ∷ 5 ∷ 12 ∷ 0 ∷ []
-
 abbrev pub slotOf : List ℕ → ℕ
 slotOf s = (2 * getD s 0 0 + 4 * getD s 1 0 + getD s 4 0) % 32
+
+abbrev pub wrapperAt : List ℕ
+wrapperAt = slots (λ n. slotOf (wrapperWords (wrapperOf n))) 32 17
 
 slotted : ℕ → List Bool
 slotted n = eqb (getD wrapperAt (slotOf (wrapperWords (wrapperOf n))) 0) n ∷ leb 5 (length (wrapperWords (wrapperOf n))) ∷ []
@@ -100,8 +99,19 @@ no-guess s h = record {
       no-false (sym e ∙ too-short (wrapperWords (wrapperOf n)) s (omega arith));
 }
 
+-- ---- a wrapper's words end in a space
+pub spaced : (w : Wrapper) → (x : List ℕ) × (wrapperWords w ≡ x ++ space ∷ [])
+spaced Eve = (bytes "eve of", refl)
+spaced Morrow = (bytes "morrow of", refl)
+spaced Octave = (bytes "octave of", refl)
+spaced (First After n) = (weekdayWord n ++ bytes " after", sym (append-assoc (weekdayWord n) (bytes " after") (space ∷ [])))
+spaced (First Before n) = (weekdayWord n ++ bytes " before", sym (append-assoc (weekdayWord n) (bytes " before") (space ∷ [])))
+
+pub words-some : (w : Wrapper) → 1 ≤ length (wrapperWords w)
+words-some w = let l = ap length (spaced w .1) ∙ length-append (spaced w .0) (space ∷ []) in omega arith
+
 -- ---- what a phrase begins with, by the word that is taken from it
-module _ (s : List ℕ) (r : ℕ) (g : Guess 17 (Begins s) r) where
+module _ (s : List ℕ) {r : ℕ} (g : Guess 17 (Begins s) r) where
   -- a wrapper that stands at the start is the guessed one
   known : (w : Wrapper) (t : List ℕ) → GoodWrapper w → wrapperWords w ++ t ≡ s → (1 ≤ r) × (w ≡ wrapperOf r)
   known w t good e =
@@ -114,22 +124,25 @@ module _ (s : List ℕ) (r : ℕ) (g : Guess 17 (Begins s) r) where
   lead-plain none =
       unproduced (λ x good e.
       let k = known (x .wrapper) (x .rest) good e in
-      let long = five-bytes r (k .0) (g .small) in
-      let differs = stands-not (wrapperWords (wrapperOf r)) s (omega arith) (none (k .0)) in
+      let differs = stands-not (wrapperWords (wrapperOf r)) s (words-some (wrapperOf r)) (none (k .0)) in
       no-false (sym (starts-append (wrapperWords (x .wrapper)) (x .rest)) ∙ rw (← k .1, ← e) at differs)) refl
 
-  pub lead-wrapped : (taken (wrapperWords (wrapperOf r)) s ≡ 0 → ⊥) → Told leadings lead Plain s (Wrapped (wrapperOf r) (taken (wrapperWords (wrapperOf r)) s))
-  lead-wrapped some =
-      let w = wrapperWords (wrapperOf r) in
-      let there = stands w s some in
-      produced (record { wrapper = wrapperOf r; rest = drop (length w) s }) (good-number r (g .small)) (begun w s (there .0))
-      (ap (Wrapped (wrapperOf r)) (there .1))
+  module _ {w : Wrapper} {n : ℕ} (is : w ≡ wrapperOf r) (count : n ≡ taken (wrapperWords w) s) where
+    pub none-taken : n ≡ 0 → Told leadings lead Plain s Plain
+    none-taken z = lead-plain (λ low. rw is at (sym count ∙ z))
+
+    pub lead-wrapped : (n ≡ 0 → ⊥) → Told leadings lead Plain s (Wrapped w n)
+    lead-wrapped some =
+        let there = stands (wrapperWords w) s (λ z. some (count ∙ z)) in
+        let rest = drop (length (wrapperWords w)) s in
+        produced (record { wrapper = w; rest = rest }) (rw is (good-number r (g .small))) (begun (wrapperWords w) s (there .0))
+        (ap (Wrapped w) (count ∙ there .1))
 
 -- no wrapper's words begin another's, so what stands behind them is told too
 pub one-wrapper : (v w : Wrapper) (a b : List ℕ) → GoodWrapper v → GoodWrapper w → wrapperWords v ++ a ≡ wrapperWords w ++ b → (v ≡ w) × (a ≡ b)
 one-wrapper v w a b gv gw e =
     let s = wrapperWords w ++ b in
-    let same = known s _ (guess s) v a gv e .1 ∙ sym (known s _ (guess s) w b gw refl .1) in
+    let same = known s (guess s) v a gv e .1 ∙ sym (known s (guess s) w b gw refl .1) in
     let behind = ap (drop (length (wrapperWords w))) (rw same at e) in
     (same, sym (drop-append-seam (wrapperWords w) a) ∙ behind ∙ drop-append-seam (wrapperWords w) b)
 
@@ -160,10 +173,10 @@ side-small x s n e = rw e (go x (starts (sideWord x) s))
     go Before true = omega arith
     go x false = omega arith
 
-module _ (x : Side) (w : ℕ) (low : 1 ≤ w) (high : w ≤ 7) (s : List ℕ) where
+module _ (x : Side) (w : ℕ) (good : (1 ≤ w) × (w ≤ 7)) (s : List ℕ) where
   its-weekday : (i : ℕ) → getD (weekday-found w) i true ≡ true
   unfolding weekday-found starts
-  its-weekday i = tested weekday-found 7 tt w low high i
+  its-weekday i = tested weekday-found 7 tt w (good .0) (good .1) i
 
   three-bytes : length (weekdayWord w) ≡ 3
   unfolding weekday-found
@@ -189,11 +202,7 @@ module _ (x : Side) (w : ℕ) (low : 1 ≤ w) (high : w ≤ 7) (s : List ℕ) wh
     pub no-side : n ≡ 0 → 0 ≡ taken words s
     no-side z =
         let e = stands-not (sideWord x) (drop 3 s) (side-some x) (sym t ∙ z) in
-        rw (starts-both (weekdayWord w) (sideWord x) s, three-bytes, e) (none (starts (weekdayWord w) s))
-      where
-        none : (b : Bool) → 0 ≡ cond (b && false) (length words) 0
-        none true = refl
-        none false = refl
+        rw (starts-both (weekdayWord w) (sideWord x) s, three-bytes, e, and-false (starts (weekdayWord w) s))
 
     pub weekday-stands : starts (cutWeekday w) s ≡ true → (n ≡ 0 → ⊥) → 3 + n ≡ taken words s
     weekday-stands e some =
@@ -202,11 +211,3 @@ module _ (x : Side) (w : ℕ) (low : 1 ≤ w) (high : w ≤ 7) (s : List ℕ) wh
         let three = three-bytes in
         let count = t ∙ there .1 in
         rw (starts-both (weekdayWord w) (sideWord x) s, three-bytes, rw is-cut at e, there .0) (omega arith)
-
--- ---- a wrapper's words end in a space
-pub spaced : (w : Wrapper) → (x : List ℕ) × (wrapperWords w ≡ x ++ space ∷ [])
-spaced Eve = (bytes "eve of", refl)
-spaced Morrow = (bytes "morrow of", refl)
-spaced Octave = (bytes "octave of", refl)
-spaced (First After n) = (weekdayWord n ++ bytes " after", sym (append-assoc (weekdayWord n) (bytes " after") (space ∷ [])))
-spaced (First Before n) = (weekdayWord n ++ bytes " before", sym (append-assoc (weekdayWord n) (bytes " before") (space ∷ [])))

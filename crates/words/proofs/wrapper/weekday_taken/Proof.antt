@@ -6,21 +6,26 @@ use Rattle.words.proofs.wrapper.Laws.{side-small, weekday-short, no-wee
 use Rattle.words.proofs.wrapper.weekday_taken.Statement.{statement}
 use Rattle.words.proofs.wrapper.weekday_taken.Tie as tie
 
-returns-4 : tie.Need-returns-4
-returns-4 c =
-    weekday-stands (c .before .before .before .before .before .before .before .before .before .args .side) _ (c .before .before .before .before .before .before .before .before .before .pre .0) (c .before .before .before .before .before .before .before .before .before .pre .1) (c .before .before .before .before .before .before .before .before .before .args .text .now) _ (rw (rest _ _) at (c .before .side-taken .ensures)) (held (c .before .before .before .before .starts-with .ensures) (c .before .before .before .if2 .left)) (c .if3 .left)
-
 returns : tie.Need-returns
 returns c =
-    weekday-short (c .before .before .args .side) _ (c .before .before .pre .0) (c .before .before .pre .1) (c .before .before .args .text .now) (c .if1 .taken)
+    let b = c .before .before in
+    weekday-short (b .args .side) _ (b .pre) (b .args .text .now) (c .if1 .taken)
 
 returns-2 : tie.Need-returns-2
 returns-2 c =
-    no-weekday (c .before .before .before .before .before .before .args .side) _ (c .before .before .before .before .before .before .pre .0) (c .before .before .before .before .before .before .pre .1) (c .before .before .before .before .before .before .args .text .now) (failed (c .before .starts-with .ensures) (c .if2 .taken))
+    let b = c .before .before .before .before .before .before in
+    no-weekday (b .args .side) _ (b .pre) (b .args .text .now) (failed (c .before .starts-with .ensures) (c .if2 .taken))
 
 returns-3 : tie.Need-returns-3
 returns-3 c =
-    no-side (c .before .before .before .before .before .before .before .before .before .args .side) _ (c .before .before .before .before .before .before .before .before .before .pre .0) (c .before .before .before .before .before .before .before .before .before .pre .1) (c .before .before .before .before .before .before .before .before .before .args .text .now) _ (rw (rest _ _) at (c .before .side-taken .ensures)) (c .if3 .taken)
+    let b = c .before .before .before .before .before .before .before .before .before in
+    no-side (b .args .side) _ (b .pre) (b .args .text .now) _ (rw (rest _ _) at (c .before .side-taken .ensures)) (c .if3 .taken)
+
+returns-4 : tie.Need-returns-4
+returns-4 c =
+    let b = c .before .before .before .before .before .before .before .before .before in
+    let found = held (c .before .before .before .before .starts-with .ensures) (c .before .before .before .if2 .left) in
+    weekday-stands (b .args .side) _ (b .pre) (b .args .text .now) _ (rw (rest _ _) at (c .before .side-taken .ensures)) found (c .if3 .left)
 
 mul-end : tie.Need-mul-end
 mul-end c = omega (arith, c .before .before .before .pre)

@@ -1,5 +1,6 @@
 use borrow.Author.Needs.{needs}
 use borrow.Author.Tests.{lt-ltb, le-ltb}
+use Rattle.words.proofs.wrapper.Laws.{from-four}
 use Rattle.words.proofs.wrapper.wrapper_of.Statement.{statement}
 use Rattle.words.proofs.wrapper.wrapper_of.Tie as tie
 
@@ -14,12 +15,10 @@ returns-3 c =
     rw (le-ltb _ 2 (c .before .before .if1 .left), le-ltb _ 3 (c .before .if2 .left), lt-ltb _ 4 (c .if3 .taken))
 
 returns-4 : tie.Need-returns-4
-returns-4 c =
-    rw (le-ltb _ 2 (c .before .before .before .if1 .left), le-ltb _ 3 (c .before .before .if2 .left), le-ltb _ 4 (c .before .if3 .left), lt-ltb _ 11 (c .if4 .taken))
+returns-4 c = rw (from-four _ (c .before .if3 .left), lt-ltb _ 11 (c .if4 .taken))
 
 returns-5 : tie.Need-returns-5
-returns-5 c =
-    rw (le-ltb _ 2 (c .before .before .before .if1 .left), le-ltb _ 3 (c .before .before .if2 .left), le-ltb _ 4 (c .before .if3 .left), le-ltb _ 11 (c .if4 .left))
+returns-5 c = rw (from-four _ (c .before .if3 .left), le-ltb _ 11 (c .if4 .left))
 
 pub wrapper-of-spec : {M : Type 1} → statement M
 wrapper-of-spec = tie.close (tie.spec returns returns-2 returns-3 returns-4 (λ c. search needs) returns-5)
