@@ -1,5 +1,4 @@
 -- What holds of a run beyond the contracts of its calls.
-use mathlib.Core.Bool.{false}
 use mathlib.Core.List.{List, [], _++_}
 use mathlib.Core.Logic.{_↔_}
 use mathlib.Core.Path.{_≡_, refl, sym, _∙_}
@@ -7,26 +6,26 @@ use Prim.Native.Nat.{ℕ}
 use lib.ListN.{length, take, drop}
 use lib.Seq.{take-append-seam}
 use Rattle.answers.proofs.Lines as lines
-use Rattle.answers.proofs.Lines.{fed, Lack}
+use Rattle.answers.proofs.Lines.{lines-have, lines-known}
 use Rattle.answers.proofs.block.Laws.{one-written, written-text}
 use Rattle.answers.proofs.block.Laws as laws
 use Rattle.words.specs.Text.{has}
-use Rattle.dating.specs.Answer.{lineFeed}
 use Rattle.answers.specs.Block.{kept, AnswersBlock, AnswersLast, joined, Run}
-use Rattle.answers.specs.Lines.{endedLines, openLine, lastLine, linesOf, Answers, IsOutput}
+use Rattle.answers.specs.Lines.{endedLines, openLine, lastLine, linesOf, HasLines, Answers, IsOutput}
 use Rattle.answers.specs.declared.block.Progress.{Progress}
 
--- The lines of an input, each with its line feed, and the bytes behind the last are the input, and no line has a line feed.
-pub lines-back : (s : List ℕ) → (fed (endedLines [] s) ++ openLine [] s ≡ s) × (Lack (endedLines [] s) × (has lineFeed (openLine [] s) ≡ false))
+-- What has the shape of an input's lines is its lines, and nothing else is.
+pub has-lines : (s : List ℕ) (ls : List (List ℕ)) → HasLines s ls ↔ (ls ≡ linesOf s)
 unfolding has
-lines-back s = (lines.lines-back [] s, (lines.lines-lack [] s refl, lines.open-lacks [] s refl))
+has-lines s ls = (lines-known, λ e. rw e (lines-have [] s refl))
 
 -- However an input is cut into blocks, what is written for them is the output for the whole, and no other is.
 pub whole-run : (blocks : List (List ℕ)) (t : List ℕ) → Run [] blocks t ↔ IsOutput (joined blocks) t
 unfolding has
 whole-run blocks t = (laws.run-on [] blocks t refl, laws.run-back [] blocks t refl)
 
--- A block's call is a step of the run: where the buffer holds what is kept, k, and the block b behind it, the bytes written answer the lines that end there, and what is kept next stands at the buffer's start.
+-- A block's call is a step of the run: where the buffer holds what is kept, k, and the block b behind it, the bytes written
+-- answer the lines that end there, and what is kept next stands at the buffer's start.
 pub block-step : (k b m n o p : List ℕ) (r : Progress) → AnswersBlock (k ++ b) m n o p r
     → Answers (endedLines [] (k ++ b)) (take (r .written) p) × (take (r .kept) n ≡ kept (openLine [] (k ++ b)))
 block-step k b m n o p r h =

@@ -1,9 +1,10 @@
 -- The lines of an input, and the output that answers them.
-use mathlib.Core.Bool.{cond}
+use mathlib.Core.Bool.{false, cond}
 use mathlib.Core.List.{List, [], _∷_, _++_}
 use mathlib.Core.Path.{_≡_}
 use Prim.Native.Nat.{ℕ}
 use lib.Dec.{eqb}
+use Rattle.words.specs.Text.{has}
 use Rattle.dating.specs.Answer.{lineFeed, IsAnswer}
 
 -- the lines that the line feeds in s end; p are the bytes of the first that stand before s
@@ -24,6 +25,12 @@ lastLine (c ∷ s) = (c ∷ s) ∷ []
 -- "dating lines ended by a line feed (the last may lack it)"
 abbrev pub linesOf : List ℕ → List (List ℕ)
 linesOf s = endedLines [] s ++ lastLine (openLine [] s)
+
+-- ls are the lines of s by their shape: none has a line feed in it, each is ended by one, and only a last line that is not empty may lack it
+pub data HasLines : List ℕ → List (List ℕ) → Type 0 where
+  none : HasLines [] []
+  ended : {l s : List ℕ} {ls : List (List ℕ)} → has lineFeed l ≡ false → HasLines s ls → HasLines (l ++ lineFeed ∷ s) (l ∷ ls)
+  unended : {c : ℕ} {l : List ℕ} → has lineFeed (c ∷ l) ≡ false → HasLines (c ∷ l) ((c ∷ l) ∷ [])
 
 -- t has the answer to each line, one behind the other
 abbrev pub Answers : List (List ℕ) → List ℕ → Type 0

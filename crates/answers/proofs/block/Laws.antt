@@ -11,10 +11,10 @@ use lib.Dec.{eqb}
 use lib.ListN.{length, take, drop, getD, set, length-append, length-take, length-drop}
 use lib.Seq.{length-take-le, take-all, take-length, take-suc, drop-cons, append-snoc, take-append-seam, take-append-le, getD-append-add, set-append-seam, getD-drop, take-take, take-add, drop-at, sets, length-sets}
 use borrow.Author.Tests.{eq-eqb, ne-eqb, le-leb}
-use Rattle.words.proofs.text.Laws.{rest}
+use Rattle.words.proofs.text.Laws.{neither, rest}
 use Rattle.dating.proofs.answer.Laws.{answer-length, overlong}
 use Rattle.dating.proofs.writer.Laws.{sets-both, sets-start}
-use Rattle.answers.proofs.Lines.{neither, ended-append, open-append, open-whole, open-lacks, answers-append, one-answered, answers-split, one-output}
+use Rattle.answers.proofs.Lines.{ended-append, open-append, open-whole, open-lacks, answers-append, one-answered, answers-split, one-output}
 use Rattle.words.specs.Text.{has, over}
 use Rattle.dating.specs.Answer.{lineFeed, IsAnswer, PutsAnswer}
 use Rattle.answers.specs.Block.{kept, Written, AnswersBlock, AnswersLast, joined, Run}
