@@ -34,7 +34,8 @@ abbrev pub joined : List (List ℕ) → List ℕ
 joined [] = []
 joined (b ∷ bs) = b ++ joined bs
 
--- the program writes t for the blocks that it reads, where the bytes k of an open line are kept: for each block the answers to the lines that end in what is kept and the block, and at the end of the input the last line's
+-- the program writes t for the blocks that it reads, where the bytes k of an open line are kept: for each block the answers to
+-- the lines that end in what is kept and the block, and at the end of the input the last line's
 abbrev pub Run : List ℕ → List (List ℕ) → List ℕ → Type 0
 Run k [] t = Answers (lastLine k) t
 Run k (b ∷ bs) t =

@@ -1,5 +1,5 @@
 -- What is kept of a line that is still open, a block byte by byte, and the calls.
-use mathlib.Core.Bool.{Bool, true, false, cond}
+use mathlib.Core.Bool.{false}
 use mathlib.Core.List.{List, [], _∷_, _++_, append-nil, append-assoc}
 use mathlib.Core.Logic.{_↔_, _⊎_, inl, inr}
 use mathlib.Core.Path.{_≡_, refl, sym, _∙_, ap, subst}
@@ -9,12 +9,14 @@ use native.Mathlib.Numerals.{add-one}
 use native.Mathlib.Omega.{arith}
 use lib.Dec.{eqb}
 use lib.ListN.{length, take, drop, getD, set, length-append, length-take, length-drop}
-use lib.Seq.{length-take-le, take-all, take-length, take-suc, drop-cons, append-snoc, take-append-seam, take-append-le, getD-append-add, set-append-seam, getD-drop, take-take, take-add, drop-at, sets, length-sets}
+use lib.Seq.{length-take-le, take-all, take-length, take-suc, take-append-seam, take-append-le, take-take, take-add, drop-cons, drop-at}
+use lib.Seq.{append-snoc, getD-append-add, getD-drop, set-append-seam, sets, length-sets}
 use borrow.Author.Tests.{eq-eqb, ne-eqb, le-leb}
-use Rattle.words.proofs.text.Laws.{neither, rest}
+use Rattle.words.proofs.text.Laws.{either, neither, rest}
 use Rattle.dating.proofs.answer.Laws.{answer-length, overlong}
 use Rattle.dating.proofs.writer.Laws.{sets-both, sets-start}
-use Rattle.answers.proofs.Lines.{ended-append, open-append, open-whole, open-lacks, answers-append, one-answered, answers-split, one-output}
+use Rattle.answers.proofs.Lines.{linesFrom, ended-append, open-append, open-whole, open-lacks}
+use Rattle.answers.proofs.Lines.{answers-append, one-answered, answers-split, one-output}
 use Rattle.words.specs.Text.{has, over}
 use Rattle.dating.specs.Answer.{lineFeed, IsAnswer, PutsAnswer}
 use Rattle.answers.specs.Block.{kept, Written, AnswersBlock, AnswersLast, joined, Run}
@@ -60,13 +62,11 @@ alike-first p q ls t k h = (h .0, (h .1 .0, (alike-answer p q (h .0) k (h .1 .1 
 alike-answers : (p q s t : List ℕ) → Alike p q → Answers (endedLines p s) t → Answers (endedLines q s) t
 unfolding endedLines
 alike-answers p q [] t k h = h
-alike-answers p q (c ∷ s) t k h = go (eqb c lineFeed) h (λ h. alike-answers (p ++ c ∷ []) (q ++ c ∷ []) s t (alike-on p q c k) h)
-  where
-    go : (b : Bool) → Answers (cond b (p ∷ endedLines [] s) (endedLines (p ++ c ∷ []) s)) t
-        → (Answers (endedLines (p ++ c ∷ []) s) t → Answers (endedLines (q ++ c ∷ []) s) t)
-        → Answers (cond b (q ∷ endedLines [] s) (endedLines (q ++ c ∷ []) s)) t
-    go true h f = alike-first p q (endedLines [] s) t k h
-    go false h f = f h
+alike-answers p q (c ∷ s) t k h =
+    elim (either (eqb c lineFeed)) [
+      | inl e ↦ rw e (alike-first p q (endedLines [] s) t k (rw e at h))
+      | inr e ↦ rw e (alike-answers (p ++ c ∷ []) (q ++ c ∷ []) s t (alike-on p q c k) (rw e at h))
+    ]
 
 kept-last : (p t : List ℕ) → Answers (lastLine (kept p)) t ↔ Answers (lastLine p) t
 kept-last [] t = (λ h. h, λ h. h)
@@ -86,12 +86,11 @@ kept-on p c =
 kept-open : (p s : List ℕ) → kept (openLine (kept p) s) ≡ kept (openLine p s)
 unfolding openLine
 kept-open p [] = take-take 121 121 p (omega arith)
-kept-open p (c ∷ s) = go (eqb c lineFeed) (sym (kept-open (kept p ++ c ∷ []) s) ∙ ap (λ (x : List ℕ). kept (openLine x s)) (kept-on p c) ∙ kept-open (p ++ c ∷ []) s)
-  where
-    go : (b : Bool) → kept (openLine (kept p ++ c ∷ []) s) ≡ kept (openLine (p ++ c ∷ []) s)
-        → kept (cond b (openLine [] s) (openLine (kept p ++ c ∷ []) s)) ≡ kept (cond b (openLine [] s) (openLine (p ++ c ∷ []) s))
-    go true e = refl
-    go false e = e
+kept-open p (c ∷ s) =
+    elim (either (eqb c lineFeed)) [
+      | inl e ↦ rw e
+      | inr e ↦ rw e (sym (kept-open (kept p ++ c ∷ []) s) ∙ ap (λ (x : List ℕ). kept (openLine x s)) (kept-on p c) ∙ kept-open (p ++ c ∷ []) s)
+    ]
 
 take-lacks : (c n : ℕ) (s : List ℕ) → has c s ≡ false → has c (take n s) ≡ false
 unfolding has
@@ -112,38 +111,39 @@ module _ (o b : List ℕ) (lacks : has lineFeed o ≡ false) where
   kept-next = ap kept (rw (whole .1) at (open-append [] (kept o) b)) ∙ kept-open o b
 
 -- the lines of a block and of those behind it
-parted : (o b rest : List ℕ) → endedLines o (b ++ rest) ++ lastLine (openLine o (b ++ rest))
-    ≡ endedLines o b ++ (endedLines (openLine o b) rest ++ lastLine (openLine (openLine o b) rest))
+parted : (o b rest : List ℕ) → linesFrom o (b ++ rest) ≡ endedLines o b ++ linesFrom (openLine o b) rest
 parted o b rest =
     rw (ended-append o b rest, open-append o b rest)
     (append-assoc (endedLines o b) (endedLines (openLine o b) rest) (lastLine (openLine (openLine o b) rest)))
 
-pub run-on : (o : List ℕ) (bs : List (List ℕ)) (t : List ℕ) → has lineFeed o ≡ false → Run (kept o) bs t
-    → Answers (endedLines o (joined bs) ++ lastLine (openLine o (joined bs))) t
+pub run-on : (o : List ℕ) (bs : List (List ℕ)) (t : List ℕ) → has lineFeed o ≡ false → Run (kept o) bs t → Answers (linesFrom o (joined bs)) t
 unfolding endedLines openLine
 run-on o [] t lacks h = kept-last o t .0 h
 run-on o (b ∷ bs) t lacks (a, (u, (first, (rest, e)))) =
-    let o′ = openLine o b in
     let here = alike-answers (kept o) o b a (kept-alike o) (rw (kept-lines o b lacks) at first) in
-    let there = run-on o′ bs u (open-lacks o b lacks) (rw (kept-next o b lacks) at rest) in
-    rw (e, parted o b (joined bs)) (answers-append (endedLines o b) (endedLines o′ (joined bs) ++ lastLine (openLine o′ (joined bs))) a u here there)
+    let there = run-on (openLine o b) bs u (open-lacks o b lacks) (rw (kept-next o b lacks) at rest) in
+    rw (e, parted o b (joined bs)) (answers-append (endedLines o b) (linesFrom (openLine o b) (joined bs)) a u here there)
 
-pub run-back : (o : List ℕ) (bs : List (List ℕ)) (t : List ℕ) → has lineFeed o ≡ false
-    → Answers (endedLines o (joined bs) ++ lastLine (openLine o (joined bs))) t → Run (kept o) bs t
+pub run-back : (o : List ℕ) (bs : List (List ℕ)) (t : List ℕ) → has lineFeed o ≡ false → Answers (linesFrom o (joined bs)) t → Run (kept o) bs t
 unfolding endedLines openLine
 run-back o [] t lacks h = kept-last o t .1 h
 run-back o (b ∷ bs) t lacks h =
-    let o′ = openLine o b in
-    let k = answers-split (endedLines o b) (endedLines o′ (joined bs) ++ lastLine (openLine o′ (joined bs))) t (rw (parted o b (joined bs)) at h) in
-    let here = alike-answers o (kept o) b (k .0) (alike-back (kept o) o (kept-alike o)) (k .1 .1 .0) in
-    let there = run-back o′ bs (k .1 .0) (open-lacks o b lacks) (k .1 .1 .1 .0) in
-    (k .0, (k .1 .0, (rw (kept-lines o b lacks) here, (rw (kept-next o b lacks) there, k .1 .1 .1 .1))))
+    let lines = linesFrom (openLine o b) (joined bs) in
+    let (a, (u, (first, (rest, e)))) = answers-split (endedLines o b) lines t (rw (parted o b (joined bs)) at h) in
+    let here = alike-answers o (kept o) b a (alike-back (kept o) o (kept-alike o)) first in
+    let there = run-back (openLine o b) bs u (open-lacks o b lacks) rest in
+    (a, (u, (rw (kept-lines o b lacks) here, (rw (kept-next o b lacks) there, e))))
 
 -- ---- one more byte
-ended-byte : (p : List ℕ) (c : ℕ) (b : Bool) → eqb c lineFeed ≡ b → (endedLines p (c ∷ []) ≡ cond b (p ∷ []) []) × (openLine p (c ∷ []) ≡ cond b [] (p ++ c ∷ []))
+line-feed : (s : List ℕ) (c : ℕ) → c ≡ lineFeed
+    → (endedLines [] (s ++ c ∷ []) ≡ endedLines [] s ++ openLine [] s ∷ []) × (openLine [] (s ++ c ∷ []) ≡ [])
 unfolding endedLines openLine
-ended-byte p c true e = rw e (refl, refl)
-ended-byte p c false e = rw e (refl, refl)
+line-feed s c e = rw (ended-append [] s (c ∷ []), open-append [] s (c ∷ []), eq-eqb c lineFeed e) (refl, refl)
+
+no-line-feed : (s : List ℕ) (c : ℕ) → (c ≡ lineFeed → ⊥)
+    → (endedLines [] (s ++ c ∷ []) ≡ endedLines [] s) × (openLine [] (s ++ c ∷ []) ≡ openLine [] s ++ c ∷ [])
+unfolding endedLines openLine
+no-line-feed s c n = rw (ended-append [] s (c ∷ []), open-append [] s (c ∷ []), ne-eqb c lineFeed n) (append-nil (endedLines [] s), refl)
 
 -- the lines that end in the first i bytes of s are answered, and the open line begins at start
 pub record Sofar (s before : List ℕ) (written start i : ℕ) (after : List ℕ) : Type 0 where
@@ -161,14 +161,11 @@ unfolding endedLines openLine
 at-first s before =
     record { text = []; answers = refl; count = refl; output = refl; begun = omega arith; inside = omega arith; small = omega arith; left = refl }
 
-module _ (s before : List ℕ) (written start i : ℕ) (after : List ℕ) (p : Sofar s before written start i after) where
+module _ {s before : List ℕ} {written start i : ℕ} {after : List ℕ} (p : Sofar s before written start i after) where
   pub sofar-length : length after ≡ length before
   sofar-length = ap length (p .output) ∙ length-sets before 0 (p .text)
 
   module _ (more : i < length s) where
-    pub has-room : 4 * length s + 25 ≤ length before → written + 25 ≤ length after
-    has-room room = let same = sofar-length in let small = p .small in let begun = p .begun in omega arith
-
     abbrev byte : ℕ
     byte = getD s i 0
 
@@ -186,30 +183,32 @@ module _ (s before : List ℕ) (written start i : ℕ) (after : List ℕ) (p : S
 
     pub another-byte : (byte ≡ lineFeed → ⊥) → Sofar s before written start (i + 1) after
     another-byte other =
-        let none = ended-byte (openLine [] (take i s)) byte false (ne-eqb byte lineFeed other) in
+        let next = no-line-feed (take i s) byte other in
         let begun = p .begun in
         record {
           text = p .text;
-          answers = rw (one-more, ended-append [] (take i s) (byte ∷ []), none .0, append-nil (endedLines [] (take i s))) (p .answers);
+          answers = rw (one-more, next .0) (p .answers);
           count = p .count;
           output = p .output;
           begun = omega arith;
           inside = omega arith;
           small = p .small;
-          left = longer ∙ rw (one-more, open-append [] (take i s) (byte ∷ []), none .1);
+          left = longer ∙ rw (one-more, next .1);
         }
 
-    pub line-end : (now : List ℕ) (r : ℕ) → byte ≡ lineFeed → written + 25 ≤ length after → PutsAnswer (take (i - start) (drop start s)) written after now r
-        → Sofar s before (written + r) (i + 1) (i + 1) now
-    line-end now r ends room h = go (rw (le-leb (written + 25) (length after) room) at h)
+    pub line-end : 4 * length s + 25 ≤ length before → (now : List ℕ) (r : ℕ) → byte ≡ lineFeed
+        → PutsAnswer (take (i - start) (drop start s)) written after now r → Sofar s before (written + r) (i + 1) (i + 1) now
+    line-end room now r ends h = go (rw (le-leb (written + 25) (length after) has-room) at h)
       where
+        has-room : written + 25 ≤ length after
+        has-room = omega (arith, sofar-length, p .small, p .begun)
+
         line : List ℕ
         line = take (i - start) (drop start s)
 
         go : (t : List ℕ) × (IsAnswer line t × ((r ≡ length t) × (now ≡ sets after written t))) → Sofar s before (written + r) (i + 1) (i + 1) now
         go (t, (told, (count, bytes))) =
-            let line-open = openLine [] (take i s) in
-            let ended = ended-byte line-open byte true (eq-eqb byte lineFeed ends) in
+            let next = line-feed (take i s) byte ends in
             let begun = p .begun in
             let small = p .small in
             let total = length-append (p .text) t in
@@ -218,38 +217,38 @@ module _ (s before : List ℕ) (written start i : ℕ) (after : List ℕ) (p : S
             let few = answer-length line t told .1 in
             let k : i + 1 - (i + 1) ≡ 0 = omega arith in
             let first : 0 + length (p .text) ≡ written = omega (arith, p .count) in
+            let line-open = openLine [] (take i s) in
             let one = one-answered line-open t (rw (p .left) at told) in
             record {
               text = p .text ++ t;
-              answers = rw (one-more, ended-append [] (take i s) (byte ∷ []), ended .0) (answers-append (endedLines [] (take i s)) (line-open ∷ []) (p .text) t (p .answers) one);
+              answers = rw (one-more, next .0) (answers-append (endedLines [] (take i s)) (line-open ∷ []) (p .text) t (p .answers) one);
               count = omega (arith, p .count);
               output = bytes ∙ rw (p .output, ← first) (sets-both (p .text) t before 0);
               begun = omega arith;
               inside = omega arith;
               small = omega arith;
-              left = rw (k, one-more, open-append [] (take i s) (byte ∷ []), ended .1);
+              left = rw (k, one-more, next .1);
             }
 
-pub all-ended : (s before : List ℕ) (written start i : ℕ) (after : List ℕ) → Sofar s before written start i after → length s ≤ i → 4 * length s + 25 ≤ length before
-    → AnswersEnded s before after (record { written = written; start = start })
-all-ended s before written start i after p end room =
-    let begun = p .begun in
-    let inside = p .inside in
-    let small = p .small in
-    let count = p .count in
-    let whole = take-all i s end in
-    let k : i - start ≡ length s - start = omega arith in
-    record {
-      output = record {
-        text = p .text;
-        answers = rw whole at (p .answers);
-        room = omega arith;
-        count = count;
-        bytes = p .output ∙ sets-start (p .text) before (omega arith);
-      };
-      inside = omega arith;
-      left = sym (rest start s) ∙ rw (k, whole) at (p .left);
-    }
+  pub all-ended : length s ≤ i → 4 * length s + 25 ≤ length before → AnswersEnded s before after (record { written = written; start = start })
+  all-ended end room =
+      let begun = p .begun in
+      let inside = p .inside in
+      let small = p .small in
+      let count = p .count in
+      let whole = take-all i s end in
+      let k : i - start ≡ length s - start = omega arith in
+      record {
+        output = record {
+          text = p .text;
+          answers = rw whole at (p .answers);
+          room = omega arith;
+          count = count;
+          bytes = p .output ∙ sets-start (p .text) before (omega arith);
+        };
+        inside = omega arith;
+        left = sym (rest start s) ∙ rw (k, whole) at (p .left);
+      }
 
 -- ---- bytes moved to the start
 over-byte : (w s : List ℕ) (i x : ℕ) → length w ≡ i → i < length s → set (over w s) i x ≡ over (w ++ x ∷ []) s
@@ -294,7 +293,7 @@ last-some : (s : List ℕ) → 1 ≤ length s → lastLine s ≡ s ∷ []
 last-some [] h = absurd (omega arith)
 last-some (c ∷ s) h = refl
 
-module _ (n e : ℕ) (b : List ℕ) (part : e ≡ min n (length b)) where
+module _ (n : ℕ) (b : List ℕ) {e : ℕ} (part : e ≡ min n (length b)) where
   front : take e b ≡ take n b
   front = rw part (filled-part n b)
 
@@ -317,9 +316,9 @@ module _ (n e : ℕ) (b : List ℕ) (part : e ≡ min n (length b)) where
             rw (cut, m) (sym (take-all 121 (take (e - start) (drop start b)) (omega arith)))
       ]
 
-  pub block-answered : {o p m : List ℕ} {r : Ended} (k : ℕ) → AnswersEnded (take e b) o p r → k ≡ min (e - r .start) 121 → m ≡ over (take k (drop (r .start) b)) b
-      → AnswersBlock (take n b) b m o p (record { written = r .written; kept = k })
-  block-answered {r = r} k h least moves =
+  pub block-answered : {o p m : List ℕ} {r : Ended} {k : ℕ} → AnswersEnded (take e b) o p r → k ≡ min (e - r .start) 121
+      → m ≡ over (take k (drop (r .start) b)) b → AnswersBlock (take n b) b m o p (record { written = r .written; kept = k })
+  block-answered {r = r} {k} h least moves =
       let fits = front-length in
       let inside : r .start ≤ e = omega (arith, h .inside) in
       let keeps = kept-part (r .start) k inside least ∙ ap kept (h .left) in

@@ -3,7 +3,7 @@ use Prim.Native.Nat.{_-_}
 use native.Mathlib.Omega.{arith}
 use lib.ListN.{length}
 use borrow.Author.Needs.{needs}
-use Rattle.answers.proofs.block.Laws.{Sofar, at-first, sofar-length, has-room, another-byte, line-end, all-ended}
+use Rattle.answers.proofs.block.Laws.{Sofar, at-first, sofar-length, another-byte, line-end, all-ended}
 use Rattle.answers.proofs.block.answer_ended.Statement.{statement}
 use Rattle.answers.proofs.block.answer_ended.Tie as tie
 
@@ -14,9 +14,7 @@ abbrev μ-loop : tie.MeasureT-loop
 μ-loop input output₀ written₀ start₀ i₀ output written start i = length input - i
 
 loop-holds : tie.Need-loop-holds Inv-loop μ-loop
-loop-holds c =
-    let a = c .before .before .args in
-    at-first (a .input .now) (a .output .now)
+loop-holds c = at-first _ _
 
 shared-slice-read-if1 : tie.Need-shared-slice-read-if1 Inv-loop μ-loop
 shared-slice-read-if1 c = c .before .loop-test .taken
@@ -32,10 +30,11 @@ part-put-answer-end c = search (needs, c .before .before .before .loop .inv)
 
 add-written : tie.Need-add-written Inv-loop μ-loop
 add-written c =
-    let a = c .before .before .before .before .before .before .before .before .before .before .before .args in
+    let room = c .before .before .before .before .before .before .before .before .before .before .before .pre in
     let l = c .before .before .before .before .before .before .before .before .loop in
-    let next = line-end (a .input .now) (a .output .now) (l .written) (l .start) (l .i) (l .output) (l .inv) (c .before .before .before .before .before .before .before .loop-test .taken) _ _ (c .before .before .before .before .before .if1 .taken) (has-room (a .input .now) (a .output .now) (l .written) (l .start) (l .i) (l .output) (l .inv) (c .before .before .before .before .before .before .before .loop-test .taken) (c .before .before .before .before .before .before .before .before .before .before .before .pre)) (c .before .before .put-answer .ensures) in
-    omega (arith, next .small, c .before .before .before .before .before .before .before .loop-test .taken, c .before .before .before .before .before .before .before .before .before .before .before .pre)
+    let more = c .before .before .before .before .before .before .before .loop-test .taken in
+    let next = line-end (l .inv) more room _ _ (c .before .before .before .before .before .if1 .taken) (c .before .before .put-answer .ensures) in
+    omega (arith, next .small)
 
 add-start : tie.Need-add-start Inv-loop μ-loop
 add-start c = omega (arith, c .before .before .before .before .before .before .before .loop-test .taken)
@@ -48,24 +47,19 @@ loop-less c = omega (arith, c .before .before .loop-test .taken)
 
 loop-again : tie.Need-loop-again Inv-loop μ-loop
 loop-again c =
-    let a = c .before .before .before .before .before .before .args in
+    let room = c .before .before .before .before .before .before .pre in
     let l = c .before .before .before .loop in
+    let more = c .before .before .loop-test .taken in
     ⊎-elim
-    (λ w. rw (w .6, w .7, w .8) (line-end (a .input .now) (a .output .now) (l .written) (l .start) (l .i) (l .output) (l .inv) (c .before .before .loop-test .taken) _ _ (w .0 .taken) (has-room (a .input .now) (a .output .now) (l .written) (l .start) (l .i) (l .output) (l .inv) (c .before .before .loop-test .taken) (c .before .before .before .before .before .before .pre)) (w .3 .ensures)))
-    (λ w. rw (w .1, w .2, w .3) (another-byte (a .input .now) (a .output .now) (l .written) (l .start) (l .i) (l .output) (l .inv) (c .before .before .loop-test .taken) (w .0 .left)))
+    (λ w. rw (w .6, w .7, w .8) (line-end (l .inv) more room _ _ (w .0 .taken) (w .3 .ensures)))
+    (λ w. rw (w .1, w .2, w .3) (another-byte (l .inv) more (w .0 .left)))
     (c .if1 .came)
 
 same-length : tie.Need-same-length Inv-loop μ-loop
-same-length c =
-    let a = c .before .before .before .before .args in
-    let l = c .before .loop in
-    sofar-length (a .input .now) (a .output .now) (l .written) (l .start) (l .i) (l .output) (l .inv)
+same-length c = sofar-length (c .before .loop .inv)
 
 returns : tie.Need-returns Inv-loop μ-loop
-returns c =
-    let a = c .before .before .before .before .args in
-    let l = c .before .loop in
-    all-ended (a .input .now) (a .output .now) (l .written) (l .start) (l .i) (l .output) (l .inv) (c .loop-test .left) ((c .before .before .before .before .pre))
+returns c = all-ended (c .before .loop .inv) (c .loop-test .left) (c .before .before .before .before .pre)
 
 pub answer-ended-spec : {M : Type 1} → statement M
 answer-ended-spec =

@@ -5,19 +5,16 @@ use Rattle.answers.proofs.block.answer_open.Statement.{statement}
 use Rattle.answers.proofs.block.answer_open.Tie as tie
 
 returns : tie.Need-returns
-returns c =
-    let a = c .before .before .before .before .args in
-    no-line (a .filled) (c .before .least .result) (a .buffer .now) (c .before .least .ensures) (a .output .now) (c .if1 .taken)
+returns c = no-line _ _ (c .before .least .ensures) _ (c .if1 .taken)
 
 slice-aggregate-put-answer : tie.Need-slice-aggregate-put-answer
-slice-aggregate-put-answer c =
-    let a = c .before .before .before .before .before .args in
-    sym (front-length (a .filled) (c .before .before .least .result) (a .buffer .now) (c .before .before .least .ensures))
+slice-aggregate-put-answer c = sym (front-length _ _ (c .before .before .least .ensures))
 
 returns-2 : tie.Need-returns-2
 returns-2 c =
-    let a = c .before .before .before .before .before .before .before .before .before .args in
-    last-answered (a .filled) (c .before .before .before .before .before .before .least .result) (a .buffer .now) (c .before .before .before .before .before .before .least .ensures) (a .output .now) _ _ (c .before .before .before .before .before .if1 .left) ((c .before .before .before .before .before .before .before .before .before .pre)) (c .before .before .put-answer .ensures)
+    let least = c .before .before .before .before .before .before .least .ensures in
+    let room = c .before .before .before .before .before .before .before .before .before .pre in
+    last-answered _ _ least _ _ _ (c .before .before .before .before .before .if1 .left) room (c .before .before .put-answer .ensures)
 
 pub answer-open-spec : {M : Type 1} → statement M
 answer-open-spec =
