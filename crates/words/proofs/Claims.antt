@@ -15,9 +15,10 @@ use Rattle.words.specs.Numeral.{numeral, YearDigits, numerals}
 use Rattle.words.specs.Text.{BehindLast}
 use Rattle.words.specs.Told.{Told, produced, unproduced}
 use Rattle.words.specs.Word.{feastWords}
-use Rattle.words.specs.Wrapper.{wrapperWords, GoodWrapper, Leading, leadings, lead, leadWords, leadLength}
+use Rattle.words.specs.Wrapper.{wrapperWords, GoodWrapper, leadings, lead, leadWords, leadLength}
 use Rattle.words.specs.declared.wrapper.Lead.the-variants.{Plain}
 use Rattle.words.specs.declared.wrapper.Lead.{Lead}
+use Rattle.words.specs.declared.wrapper.Wrapper.{Wrapper}
 
 -- Bytes are 1 to 4 digits, the first not 0, exactly when they are the numeral of a number from 1 to 9999.
 pub year-digits : (s : List ℕ) → YearDigits s ↔ ((n : ℕ) × (((1 ≤ n) × (n ≤ 9999)) × (numeral n ≡ s)))
@@ -48,9 +49,10 @@ lead-stands s r (unproduced n m) = rw m (refl, refl)
 
 -- The number of bytes is 0 exactly when no wrapper's words stand there.
 pub lead-none : (s : List ℕ) (r : Lead) → Told leadings lead Plain s r
-    → (leadLength r ≡ 0) ↔ ((x : Leading) → GoodWrapper (x .wrapper) → wrapperWords (x .wrapper) ++ x .rest ≡ s → ⊥)
-lead-none s r (produced x g e m) = (λ z. absurd (omega (arith, words-some (x .wrapper), ap leadLength m)), λ none. absurd (none x g e))
-lead-none s r (unproduced n m) = (λ z. n, λ none. ap leadLength m)
+    → (leadLength r ≡ 0) ↔ ((w : Wrapper) (t : List ℕ) → GoodWrapper w → wrapperWords w ++ t ≡ s → ⊥)
+lead-none s r (produced x g e m) =
+    (λ z. absurd (omega (arith, words-some (x .wrapper), ap leadLength m)), λ none. absurd (none (x .wrapper) (x .rest) g e))
+lead-none s r (unproduced n m) = (λ z w t. n (record { wrapper = w; rest = t }), λ none. ap leadLength m)
 
 -- Bytes have one place behind the last of a kind.
 pub one-place : (c : ℕ) (s : List ℕ) (i j : ℕ) → BehindLast c s i → BehindLast c s j → i ≡ j

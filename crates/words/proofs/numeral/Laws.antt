@@ -18,12 +18,9 @@ use Rattle.words.specs.Numeral.{digit, decimal, numeral, YearDigits, num
 use Rattle.words.specs.Text.{has}
 use Rattle.words.specs.Told.{Told, produced, unproduced}
 
-isDigit : ℕ → Bool
-isDigit x = between 48 x 57
-
 allDigits : List ℕ → Bool
 allDigits [] = true
-allDigits (x ∷ s) = isDigit x && allDigits s
+allDigits (x ∷ s) = between 48 x 57 && allDigits s
 
 -- the number that a numeral stands for
 value : ℕ → List ℕ → ℕ
@@ -38,16 +35,12 @@ made n =
 
 module _ (n : ℕ) (low : 1 ≤ n) (high : n ≤ 9999) where
   all-made : (i : ℕ) → getD (made n) i true ≡ true
-  unfolding made allDigits isDigit value decimal between
+  unfolding made allDigits value decimal between
   all-made i = tested made 9999 tt n low high i
 
   all-digits : allDigits (numeral n) ≡ true
   unfolding made
   all-digits = all-made 0
-
-  no-zero : ltb 48 (getD (numeral n) 0 0) ≡ true
-  unfolding made
-  no-zero = all-made 1
 
   stands-for : value 0 (numeral n) ≡ n
   unfolding made
@@ -63,7 +56,7 @@ module _ (n : ℕ) (low : 1 ≤ n) (high : n ≤ 9999) where
       ]
 
 digit-at : (s : List ℕ) → allDigits s ≡ true → (i : ℕ) → i < length s → (48 ≤ getD s i 0) × (getD s i 0 ≤ 57)
-unfolding allDigits isDigit
+unfolding allDigits
 digit-at [] e i h = absurd (omega arith)
 digit-at (x ∷ s) e zero h = range 48 x 57 (and-eq-true-iff (between 48 x 57) (allDigits s) .0 e .0)
 digit-at (x ∷ s) e (suc i) h = digit-at s (and-eq-true-iff (between 48 x 57) (allDigits s) .0 e .1) i (omega arith)
@@ -145,8 +138,9 @@ seven-digits n h = short 6 n (omega arith) (omega arith)
 
 -- ---- reading, digit by digit
 pub numeral-digits : (n : ℕ) → 1 ≤ n → n ≤ 9999 → YearDigits (numeral n)
+unfolding made
 numeral-digits n low high =
-    let f = ltb-true 48 (getD (numeral n) 0 0) (no-zero n low high) in
+    let f = ltb-true 48 (getD (numeral n) 0 0) (all-made n low high 1) in
     record { some = numeral-length n .0; few = four-digits n high; digits = digit-at (numeral n) (all-digits n low high); first = λ e. omega arith }
 
 pub no-numeral : (high : ℕ) (s : List ℕ) → (YearDigits s → ⊥) → Told (numerals high) (λ n. n) 0 s 0
@@ -203,7 +197,7 @@ digits-read {s} d (suc i) h =
 
 -- ---- what stands in no numeral
 no-digit : (c : ℕ) (s : List ℕ) → c < 48 → allDigits s ≡ true → has c s ≡ false
-unfolding has allDigits isDigit
+unfolding has allDigits
 no-digit c [] h e = refl
 no-digit c (x ∷ s) h e =
     let b = and-eq-true-iff (between 48 x 57) (allDigits s) .0 e in
