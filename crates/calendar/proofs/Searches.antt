@@ -12,7 +12,8 @@ either-way false n e = e
 
 module _ (test : ℕ → Bool) where
   -- a day that passes, and none on the way to it
-  pub found-later : (k n d : ℕ) → n ≤ d → d < n + k → ((i : ℕ) → n ≤ i → i < d → test i ≡ false) → test d ≡ true → firstOf suc test k n ≡ d
+  pub found-later : (k n d : ℕ) → n ≤ d → d < n + k
+      → ((i : ℕ) → n ≤ i → i < d → test i ≡ false) → test d ≡ true → firstOf suc test k n ≡ d
   unfolding firstOf
   found-later zero n d from to none passes = absurd (omega arith)
   found-later (suc k) n d from to none passes =
@@ -21,7 +22,8 @@ module _ (test : ℕ → Bool) where
         | no h ↦ let here : n ≡ d = omega arith in rw (here, passes)
       ]
 
-  pub found-earlier : (k n d : ℕ) → d ≤ n → n < d + k → ((i : ℕ) → d < i → i ≤ n → test i ≡ false) → test d ≡ true → firstOf pred test k n ≡ d
+  pub found-earlier : (k n d : ℕ) → d ≤ n → n < d + k
+      → ((i : ℕ) → d < i → i ≤ n → test i ≡ false) → test d ≡ true → firstOf pred test k n ≡ d
   unfolding firstOf
   found-earlier zero n d from to none passes = absurd (omega arith)
   found-earlier (suc k) n d from to none passes =

@@ -1,13 +1,13 @@
 -- Dates and their days.
-use mathlib.Core.Bool.{Bool, false, _&&_, cond}
+use mathlib.Core.Bool.{Bool, _&&_, cond}
 use mathlib.Core.List.{List, [], _∷_}
 use mathlib.Core.Path.{_≡_}
 use Prim.Native.Nat.{ℕ, zero, suc, pred, _+_, _≤_, _<_}
 use lib.Dec.{ltb, eqb}
 use lib.ListN.{getD}
 use Rattle.calendar.specs.Range.{between}
-use Rattle.calendar.specs.Refusal.{unless}
-use Rattle.calendar.specs.Span.{inSpan, within}
+use Rattle.calendar.specs.Refusal.{refusalNumber, Test, _unless_, checked}
+use Rattle.calendar.specs.Span.{inSpan, spanTests}
 use Rattle.calendar.specs.Style.{styleOf, inStyle}
 use Rattle.calendar.specs.Year.{named, leap, newYear, served}
 use Rattle.calendar.specs.declared.date.DateAnswer.the-variants.{On, NoDate}
@@ -38,7 +38,7 @@ pub record MonthOf (b : Bool) (i m : ℕ) : Type 0 where
   pub from : daysOfMonths b (pred m) ≤ i
   pub to : i < daysOfMonths b m
 
--- refusal 5: "no such month, or no such day in that month of that year"
+-- the dates that there are; else refusal 5: "no such month, or no such day in that month of that year"
 unfoldable pub isDate : Style → ℕ → ℕ → ℕ → Bool
 isDate s y m d = between 1 m 12 && between 1 d (monthLength (leap s y) m)
 
@@ -46,21 +46,40 @@ isDate s y m d = between 1 m 12 && between 1 d (monthLength (leap s y) m)
 unfoldable pub dayNumber : Style → ℕ → ℕ → ℕ → ℕ
 dayNumber s y m d = newYear s y + daysOfMonths (leap s y) (pred m) + pred d
 
+-- the tests of a date of the named year t
+abbrev pub dateTests : NamedYear → ℕ → ℕ → List Test
+dateTests t m d =
+    Year unless served (t .style) (t .year)
+    ∷ Date unless isDate (t .style) (t .year) m d
+    ∷ Span unless inSpan (t .style) (dayNumber (t .style) (t .year) m d)
+    ∷ []
+
 -- the day of a date of the named year t, refused by 4, 5 or 6
 unfoldable pub dayInYear : NamedYear → ℕ → ℕ → DayAnswer
-dayInYear t m d =
-    unless (served (t .style) (t .year)) (NoDay Year)
-    (unless (isDate (t .style) (t .year) m d) (NoDay Date)
-    (within (t .style) (dayNumber (t .style) (t .year) m d)))
+dayInYear t m d = checked NoDay (Day (dayNumber (t .style) (t .year) m d)) (dateTests t m d)
 
 -- date to day in the style with the number k: refused by 1, and else as in the style
 abbrev pub dayOfDate : ℕ → ℕ → ℕ → ℕ → DayAnswer
 dayOfDate k y m d = inStyle NoDay (λ s. dayInYear (named s y) m d) (styleOf k)
 
--- what the date of a day may be: the date whose day it is, or 6 outside the span
+-- a date whose day is n
+abbrev pub IsDateOf : Style → ℕ → DateAnswer → Type 0
+IsDateOf s n (On y m d) = dayInYear (named s y) m d ≡ Day n
+IsDateOf s n (NoDate x) = ⊥
+
+-- what the date of a day may be: refused by 6, and else the date whose day it is
 abbrev pub IsDateInStyle : Style → ℕ → DateAnswer → Type 0
-IsDateInStyle s n (On y m d) = dayInYear (named s y) m d ≡ Day n
-IsDateInStyle s n (NoDate x) = (inSpan s n ≡ false) × (x ≡ Span)
+IsDateInStyle s n r = checked (λ x. r ≡ NoDate x) (IsDateOf s n r) (spanTests s n)
+
+-- the refusal's number, or 0 where there is none
+abbrev pub dateRefusal : DateAnswer → ℕ
+dateRefusal (On y m d) = 0
+dateRefusal (NoDate x) = refusalNumber x
+
+-- year, month and day; none where they are refused
+abbrev pub dateNumbers : DateAnswer → List ℕ
+dateNumbers (On y m d) = y ∷ m ∷ d ∷ []
+dateNumbers (NoDate x) = []
 
 -- day to date in the style with the number k: refused by 1, and else as in the style
 abbrev pub IsDateOfDay : ℕ → ℕ → DateAnswer → Type 0

@@ -1,8 +1,9 @@
 -- The days that a style may name.
 use mathlib.Core.Bool.{Bool}
+use mathlib.Core.List.{List, [], _∷_}
 use Prim.Native.Nat.{ℕ}
 use Rattle.calendar.specs.Range.{between}
-use Rattle.calendar.specs.Refusal.{refusalNumber, unless}
+use Rattle.calendar.specs.Refusal.{refusalNumber, Test, _unless_, checked}
 use Rattle.calendar.specs.declared.refusal.Refusal.the-variants.{Span}
 use Rattle.calendar.specs.declared.span.DayAnswer.the-variants.{Day, NoDay}
 use Rattle.calendar.specs.declared.span.DayAnswer.{DayAnswer}
@@ -19,13 +20,25 @@ abbrev pub lastDay : Style → ℕ
 lastDay Julian = 5373557
 lastDay Gregorian = 5373484
 
+-- "no day is below 1721424"
+abbrev pub earliest : ℕ
+earliest = firstDay Julian
+
+-- and none is above the last day of J
+abbrev pub latest : ℕ
+latest = lastDay Julian
+
 -- "These are the style's span."
 unfoldable pub inSpan : Style → ℕ → Bool
 inSpan s n = between (firstDay s) n (lastDay s)
 
--- refusal 6: "a day outside the style's span"; any other day is the answer
+-- refusal 6: "a day outside the style's span"
+abbrev pub spanTests : Style → ℕ → List Test
+spanTests s n = Span unless inSpan s n ∷ []
+
+-- the day n where the style's span has it, and else the refusal
 unfoldable pub within : Style → ℕ → DayAnswer
-within s n = unless (inSpan s n) (NoDay Span) (Day n)
+within s n = checked NoDay (Day n) (spanTests s n)
 
 -- "a call for a day answers one number, the day or the refusal"
 abbrev pub dayOrRefusal : DayAnswer → ℕ

@@ -49,6 +49,6 @@ abbrev pub firstYear : Style → ℕ
 firstYear Julian = 1
 firstYear Gregorian = 1582
 
--- refusal 4: "J outside 1 to 9999; G outside 1582 to 9999"
+-- the years that are served; else refusal 4: "J outside 1 to 9999; G outside 1582 to 9999"
 unfoldable pub served : Style → ℕ → Bool
 served s y = between (firstYear s) y 9999

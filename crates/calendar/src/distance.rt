@@ -7,6 +7,7 @@ ghost use mathlib.Core.Path.{_≡_};
 ghost use Prim.Native.Nat.{_≤_};
 ghost use Rattle.calendar.specs.Date.{dayOfDate};
 ghost use Rattle.calendar.specs.Distance.{distance, distanceOfDays, distanceRefusal, distanceOrZero};
+ghost use Rattle.calendar.specs.Span.{latest};
 
 // A distance in days, or why there is none.
 pub enum DistanceAnswer {
@@ -16,7 +17,7 @@ pub enum DistanceAnswer {
 
 // The second day less the first, of two days that some span has.
 fn days_between(first: u32, second: u32) -> i32
-    requires { ⌜ (first ≤ 5373557) × (second ≤ 5373557) ⌝ }
+    requires { ⌜ (first ≤ latest) × (second ≤ latest) ⌝ }
     ensures { λ r. ⌜ r ≡ distance first second ⌝ }
 {
     let from = first as i32;

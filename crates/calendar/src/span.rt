@@ -6,6 +6,15 @@ use crate::style::Style;
 ghost use mathlib.Core.Path.{_≡_};
 ghost use Rattle.calendar.specs.Span.{inSpan, within, dayOrRefusal};
 
+// The first and the last day of each style's span.
+const J_FIRST: u64 = 1721424;
+
+const J_LAST: u64 = 5373557;
+
+const G_FIRST: u64 = 2299161;
+
+const G_LAST: u64 = 5373484;
+
 // A day, or why there is none.
 pub enum DayAnswer {
     Day(u32),
@@ -17,8 +26,8 @@ pub(crate) fn is_in_span(style: Style, day: u64) -> bool
     ensures { λ r. ⌜ r ≡ inSpan style day ⌝ }
 {
     match style {
-        Style::Julian => is_between(1721424, day, 5373557),
-        Style::Gregorian => is_between(2299161, day, 5373484),
+        Style::Julian => is_between(J_FIRST, day, J_LAST),
+        Style::Gregorian => is_between(G_FIRST, day, G_LAST),
     }
 }
 

@@ -55,9 +55,6 @@ pub fn weekday_or_zero(answer: WeekdayAnswer) -> u32
     }
 }
 
-// Sunday's number.
-pub const SUNDAY: u64 = 7;
-
 // The side of a day on which a weekday is looked for.
 pub enum Side {
     After,

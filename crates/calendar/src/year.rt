@@ -7,6 +7,11 @@ ghost use Prim.Native.Nat.{_+_, _≤_, _<_};
 ghost use Rattle.calendar.specs.Span.{inSpan};
 ghost use Rattle.calendar.specs.Year.{leap, served, newYear, YearOf};
 
+// The day number of 1 January 1 in each style.
+const J_NEW_YEAR: u64 = 1721424;
+
+const G_NEW_YEAR: u64 = 1721426;
+
 // A style and a year of it.
 pub struct NamedYear {
     pub style: Style,
@@ -53,8 +58,8 @@ pub(crate) fn new_year(named: NamedYear) -> u64
     let style = named.style;
     let n = named.year - 1;
     match style {
-        Style::Julian => 1721424 + 365 * n + n / 4,
-        Style::Gregorian => 1721426 + 365 * n + n / 4 + n / 400 - n / 100,
+        Style::Julian => J_NEW_YEAR + 365 * n + n / 4,
+        Style::Gregorian => G_NEW_YEAR + 365 * n + n / 4 + n / 400 - n / 100,
     }
 }
 
@@ -64,8 +69,8 @@ fn year_estimate(style: Style, day: u64) -> u64
     ensures { λ r. ⌜ (1 ≤ r) × (r ≤ 9999) × (newYear style r ≤ day) × (day < newYear style (r + 2)) ⌝ }
 {
     match style {
-        Style::Julian => (day - 1721424) * 4 / 1461 + 1,
-        Style::Gregorian => (day - 1721426) * 400 / 146097 + 1,
+        Style::Julian => (day - J_NEW_YEAR) * 4 / 1461 + 1,
+        Style::Gregorian => (day - G_NEW_YEAR) * 400 / 146097 + 1,
     }
 }
 

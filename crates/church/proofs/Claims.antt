@@ -1,43 +1,63 @@
 -- What holds of the year sheet and the feasts beyond the contracts, for all years from 1 on in both styles.
 use mathlib.Core.Bool.{true, false}
-use mathlib.Core.Logic.{_↔_, inl}
-use mathlib.Core.Path.{_≡_, refl, sym, _∙_}
+use mathlib.Core.List.{[], _∷_}
+use mathlib.Core.Logic.{_↔_}
+use mathlib.Core.Path.{_≡_, refl, sym, _∙_, ap}
 use Prim.Native.Nat.{ℕ, _+_, _≤_, _<_}
 use native.Mathlib.Omega.{arith}
 use lib.IntN.{ℤ, pos, _+ℤ_, _*ℤ_}
 use lib.ListN.{length}
-use Rattle.calendar.proofs.style.Laws.{by-number, by-cases}
+use Rattle.calendar.proofs.span.Laws.{span-small}
+use Rattle.calendar.proofs.style.Laws.{by-number, both-in, given-by-number, given-of-any}
 use Rattle.church.proofs.column.Laws.{walked}
 use Rattle.church.proofs.easter.Laws as easter-laws
+pub use Rattle.church.proofs.easter.Laws.{firstEaster, easter-years, limit-range, easter-in-span}
 use Rattle.church.proofs.epact.Laws as epact-laws
 use Rattle.church.proofs.feast.Laws as feast-laws
-use Rattle.church.proofs.feast.Laws.{FeastNumber, feast-number}
+pub use Rattle.church.proofs.feast.Laws.{feast-date-exists}
 use Rattle.church.proofs.letter.Laws as letter-laws
-use Rattle.church.proofs.sheet.Laws as sheet-laws
+pub use Rattle.church.proofs.sheet.Laws.{one-answer-in-year}
 use Rattle.calendar.specs.Date.{isDate, dayNumber}
 use Rattle.calendar.specs.Range.{between}
-use Rattle.calendar.specs.Span.{inSpan, dayOrRefusal}
-use Rattle.calendar.specs.Style.{styleNumber, inStyle}
+use Rattle.calendar.specs.Refusal.{Holds, Lowest}
+use Rattle.calendar.specs.Span.{earliest, dayOrRefusal}
+use Rattle.calendar.specs.Style.{styleNumber, styleOf, byNumber}
 use Rattle.calendar.specs.Weekday.{weekday, sunday}
 use Rattle.calendar.specs.Year.{named, leap}
 use Rattle.church.specs.Column.{stands, luna}
-use Rattle.church.specs.Easter.{limit, march, easter, key, hasEaster}
+use Rattle.church.specs.Easter.{limit, march, easter, key, hasEaster, easterTests}
 use Rattle.church.specs.Epact.{golden, hundreds, gregorianSum, epact, arabic}
-use Rattle.church.specs.Feast.{feasts, adventSunday, feastInYear, feastOfYear}
+use Rattle.church.specs.Feast.{feasts, rule, adventSunday, ruleNumber, feastTests, feastInYear, feastOfYear}
 use Rattle.church.specs.Letter.{letterOf, Part, first, second, inPart, SundayLetter}
-use Rattle.church.specs.Sheet.{IsSheetInYear, IsSheetOfYear}
+use Rattle.church.specs.Sheet.{IsSheetOf, IsSheetOfYear, sheetRefusal, yes, sheetNumbers}
 use Rattle.calendar.specs.declared.span.DayAnswer.the-variants.{Day, NoDay}
 use Rattle.calendar.specs.declared.style.Style.the-variants.{Gregorian}
 use Rattle.calendar.specs.declared.style.Style.{Style}
 use Rattle.calendar.specs.declared.year.NamedYear.{NamedYear}
+use Rattle.church.specs.declared.sheet.SheetAnswer.the-variants.{Sheet, NoSheet}
 use Rattle.church.specs.declared.sheet.SheetAnswer.{SheetAnswer}
 
--- Any two answers that the year sheet may give are equal.
+-- Any two answers that the year sheet may give are equal, in a style (`one-answer-in-year`) and by its number.
 pub one-answer : (k y : ℕ) (r r′ : SheetAnswer) → IsSheetOfYear k y r → IsSheetOfYear k y r′ → r ≡ r′
-one-answer k y r r′ h h′ = sheet-laws.one-answer k y r r′ h h′
+one-answer k y r r′ h h′ = both-in (styleOf k) (λ s. one-answer-in-year (named s y) r r′) (λ x p q. p ∙ sym q) h h′
 
-pub one-answer-in-year : (t : NamedYear) (r r′ : SheetAnswer) → IsSheetInYear t r → IsSheetInYear t r′ → r ≡ r′
-one-answer-in-year t r r′ h h′ = sheet-laws.one-in-year t r r′ h h′
+-- "The lowest number that holds is given, and none otherwise": the sheet and a feast are refused by n exactly when it is that.
+pub sheet-refused : (k y n : ℕ) (r : SheetAnswer) → 1 ≤ n → IsSheetOfYear k y r
+    → (sheetRefusal r ≡ n) ↔ Lowest (Holds (byNumber (λ s. easterTests (named s y)) k)) n
+sheet-refused k y n r some h =
+    given-of-any (λ x. r ≡ NoSheet x) (λ s. IsSheetOf (named s y) r) (sheetRefusal r) (λ x. ap sheetRefusal) n (λ s. easterTests (named s y)) (λ s. tt)
+    (λ s. is-sheet (named s y) r) k h
+  where
+    is-sheet : (t : NamedYear) (r : SheetAnswer) → IsSheetOf t r → sheetRefusal r ≡ n → ⊥
+    is-sheet t (Sheet q) h e = omega arith
+    is-sheet t (NoSheet x) h e = h
+
+pub feast-refused : (k f y n : ℕ) → n < earliest
+    → (dayOrRefusal (feastOfYear k f y) ≡ n) ↔ Lowest (Holds (byNumber (λ s. feastTests (named s y) f) k)) n
+unfolding feastInYear
+feast-refused k f y n low =
+    given-by-number dayOrRefusal NoDay (λ x. refl) n (λ s. Day (ruleNumber (rule f) s y)) (λ s. feastTests (named s y) f) (λ s. tt)
+    (λ s all e. omega (arith, span-small s (ruleNumber (rule f) s y) (all .1 .1 .1 .0))) k
 
 -- A G epact is the remainder by 30 of its sum, also where that is negative.
 pub epact-remainder : (y : ℕ)
@@ -55,10 +75,6 @@ pub one-luna : (s : Style) (y d : ℕ) → stands s (epact s y) (arabic s y) d �
 unfolding luna
 one-luna s y d h = walked s y .once d h
 
--- The limit lies from 21 to 49.
-pub limit-range : (s : Style) (y : ℕ) → (21 ≤ limit s y) × (limit s y ≤ 49)
-limit-range s y = easter-laws.limit-range s y
-
 -- The key lies from 1 to 35, and counts from 21 March to Easter.
 pub key-range : (s : Style) (y : ℕ) → (1 ≤ key s y) × (key s y ≤ 35) × (march s y 21 + key s y ≡ easter s y)
 unfolding key
@@ -75,16 +91,34 @@ easter-sunday s y =
     let f = easter-laws.easter-facts s y in
     (f .falls, f .later, f .week)
 
--- In a year that has a sheet Easter lies in the span.
-pub easter-in-span : (s : Style) (y : ℕ) → hasEaster s y ≡ true → inSpan s (easter s y) ≡ true
-easter-in-span s y h = easter-laws.easter-in-span s y h
-
 -- Each part of a year has one Sunday letter.
 pub has-letter : (s : Style) (y : ℕ) (p : Part) → (l : ℕ) × SundayLetter s y p l
 has-letter s y p = (letter-laws.closed p (leap s y) (march s y 21), letter-laws.sundays s y p)
 
 pub one-letter : (s : Style) (y : ℕ) (p : Part) (l l′ : ℕ) → SundayLetter s y p l → SundayLetter s y p l′ → l ≡ l′
 one-letter s y p l l′ h h′ = letter-laws.one-letter s y p l h ∙ sym (letter-laws.one-letter s y p l′ h′)
+
+-- A sheet's numbers are those of its year.
+pub sheet-numbers : (s : Style) (y l l′ : ℕ) (r : SheetAnswer) → hasEaster s y ≡ true → IsSheetOfYear (styleNumber s) y r
+    → SundayLetter s y first l → SundayLetter s y second l′
+    → sheetNumbers r ≡ yes (leap s y) ∷ golden y ∷ epact s y ∷ yes (arabic s y) ∷ l ∷ l′ ∷ limit s y ∷ key s y ∷ easter s y ∷ []
+sheet-numbers s y l l′ r has h f g = go r (rw (by-number s, has) at h)
+  where
+    go : (r : SheetAnswer) → IsSheetOf (named s y) r
+        → sheetNumbers r ≡ yes (leap s y) ∷ golden y ∷ epact s y ∷ yes (arabic s y) ∷ l ∷ l′ ∷ limit s y ∷ key s y ∷ easter s y ∷ []
+    go (NoSheet x) k = absurd k
+    go (Sheet q) k =
+        rw (
+          k .its-leap,
+          k .its-golden,
+          k .its-epact,
+          k .its-arabic,
+          k .its-limit,
+          k .its-key,
+          k .its-easter,
+          one-letter s y first _ l (k .its-first) f,
+          one-letter s y second _ l′ (k .its-second) g,
+        )
 
 -- Every Sunday of a part of the year bears its Sunday letter, and no other day does.
 pub letter-borne : (s : Style) (y : ℕ) (p : Part) (l m d : ℕ) → SundayLetter s y p l → isDate s y m d ≡ true → inPart p m d ≡ true
@@ -103,13 +137,10 @@ common-letters s y l l′ common h h′ =
 pub forty-eight : length feasts ≡ 48
 forty-eight = refl
 
--- In a year that has an Easter every feast has a day.
-pub feast-answered : (s : Style) (y f : ℕ) → hasEaster s y ≡ true → between 1 f 48 ≡ true → (n : ℕ) × (feastOfYear (styleNumber s) f y ≡ Day n)
-feast-answered s y f h e = rw by-number (feast-laws.feast-answered (named s y) f h e)
-
--- The number of a feast's answer is 1, 4 or 6, or a day not below 1721424.
-pub feast-numbers : (k f y : ℕ) → FeastNumber (dayOrRefusal (feastOfYear k f y))
-feast-numbers k f y = by-cases (λ x. FeastNumber (dayOrRefusal (inStyle NoDay (λ s. feastInYear (named s y) f) x))) (λ s. feast-number (named s y) f) (inl refl) k
+-- In a year that has an Easter every feast has its day.
+pub feast-answered : (s : Style) (y f : ℕ) → hasEaster s y ≡ true → between 1 f 48 ≡ true
+    → feastOfYear (styleNumber s) f y ≡ Day (ruleNumber (rule f) s y)
+feast-answered s y f h e = rw by-number (feast-laws.feast-answered s y f h e)
 
 -- Advent is a Sunday from 27 November to 3 December, and the only one.
 pub advent-sunday : (s : Style) (y : ℕ)

@@ -1,27 +1,37 @@
 -- Feasts, in the order of their numbers.
+use mathlib.Core.Bool.{Bool, true}
 use mathlib.Core.List.{List, [], _∷_}
 use Prim.Native.Nat.{ℕ, suc, pred, _+_, _-_}
 use Prim.Native.String.{String}
+use lib.IntN.{ℤ, pos, negsuc, negℤ}
 use lib.ListN.{getD}
-use Rattle.calendar.specs.Date.{dayNumber, dayInYear}
+use Rattle.calendar.specs.Date.{isDate, dayNumber}
 use Rattle.calendar.specs.Range.{between}
-use Rattle.calendar.specs.Refusal.{unless}
+use Rattle.calendar.specs.Refusal.{Test, _unless_, checked}
 use Rattle.calendar.specs.Search.{firstOf}
-use Rattle.calendar.specs.Span.{within}
+use Rattle.calendar.specs.Span.{inSpan}
 use Rattle.calendar.specs.Style.{styleOf, inStyle}
 use Rattle.calendar.specs.Weekday.{sunday, fallsOn}
 use Rattle.calendar.specs.Year.{named, served}
 use Rattle.church.specs.Easter.{easter, hasEaster}
-use Rattle.calendar.specs.declared.refusal.Refusal.the-variants.{Name, Year}
-use Rattle.calendar.specs.declared.span.DayAnswer.the-variants.{NoDay}
+use Rattle.calendar.specs.declared.refusal.Refusal.the-variants.{Name, Year, Date, Span}
+use Rattle.calendar.specs.declared.span.DayAnswer.the-variants.{Day, NoDay}
 use Rattle.calendar.specs.declared.span.DayAnswer.{DayAnswer}
 use Rattle.calendar.specs.declared.style.Style.{Style}
 use Rattle.calendar.specs.declared.year.NamedYear.{NamedYear}
 
--- when a feast is kept: so many days before or after Easter, on a day of a month, or as advent
+-- a number of days with its sign
+infix 69 -_
+infix 69 +_
+abbrev pub -_ : ℕ → ℤ
+- n = negℤ (pos n)
+
+abbrev pub +_ : ℕ → ℤ
++ n = pos n
+
+-- when a feast is kept: so many "Days from Easter", on a day of a month, or as advent
 pub data Rule : Type 0 where
-  before : ℕ → Rule
-  after : ℕ → Rule
+  hung : ℤ → Rule
   on : (day month : ℕ) → Rule
   advent : Rule
 
@@ -36,29 +46,29 @@ ruleOf (word is r) = r
 -- "Feast numbers 1 to 48 follow this order."
 abbrev pub feasts : List Feast
 feasts =
-    "septuagesima" is before 63
-    ∷ "sexagesima" is before 56
-    ∷ "estomihi" is before 49
-    ∷ "ashes" is before 46
-    ∷ "invocavit" is before 42
-    ∷ "reminiscere" is before 35
-    ∷ "oculi" is before 28
-    ∷ "laetare" is before 21
-    ∷ "judica" is before 14
-    ∷ "palms" is before 7
-    ∷ "cena" is before 3
-    ∷ "parasceve" is before 2
-    ∷ "easter" is after 0
-    ∷ "quasimodo" is after 7
-    ∷ "misericordia" is after 14
-    ∷ "jubilate" is after 21
-    ∷ "cantate" is after 28
-    ∷ "rogate" is after 35
-    ∷ "ascension" is after 39
-    ∷ "exaudi" is after 42
-    ∷ "pentecost" is after 49
-    ∷ "trinity" is after 56
-    ∷ "corpus" is after 60
+    "septuagesima" is hung (- 63)
+    ∷ "sexagesima" is hung (- 56)
+    ∷ "estomihi" is hung (- 49)
+    ∷ "ashes" is hung (- 46)
+    ∷ "invocavit" is hung (- 42)
+    ∷ "reminiscere" is hung (- 35)
+    ∷ "oculi" is hung (- 28)
+    ∷ "laetare" is hung (- 21)
+    ∷ "judica" is hung (- 14)
+    ∷ "palms" is hung (- 7)
+    ∷ "cena" is hung (- 3)
+    ∷ "parasceve" is hung (- 2)
+    ∷ "easter" is hung (+ 0)
+    ∷ "quasimodo" is hung (+ 7)
+    ∷ "misericordia" is hung (+ 14)
+    ∷ "jubilate" is hung (+ 21)
+    ∷ "cantate" is hung (+ 28)
+    ∷ "rogate" is hung (+ 35)
+    ∷ "ascension" is hung (+ 39)
+    ∷ "exaudi" is hung (+ 42)
+    ∷ "pentecost" is hung (+ 49)
+    ∷ "trinity" is hung (+ 56)
+    ∷ "corpus" is hung (+ 60)
     ∷ "circumcision" is on 1 1
     ∷ "epiphany" is on 6 1
     ∷ "candlemas" is on 2 2
@@ -97,20 +107,48 @@ rule f = ruleOf (feastOf f)
 unfoldable pub adventSunday : Style → ℕ → ℕ
 adventSunday s y = firstOf suc (fallsOn sunday) 7 (dayNumber s y 11 27)
 
--- a day hung on the Easter of the named year t, refused by 4 or 6
-abbrev pub hungDay : NamedYear → ℕ → DayAnswer
-hungDay t n = unless (hasEaster (t .style) (t .year)) (NoDay Year) (within (t .style) n)
+-- the day that lies so many days from the day n
+abbrev pub daysFrom : ℤ → ℕ → ℕ
+daysFrom (pos k) n = n + k
+daysFrom (negsuc k) n = n - suc k
 
--- the day of a rule in the named year t
+-- the years that a style serves for a rule: all that it serves, but for "G 1582 for .. a feast hung on Easter"
+abbrev pub servedFor : Rule → Style → ℕ → Bool
+servedFor (hung z) s y = hasEaster s y
+servedFor (on d m) s y = served s y
+servedFor advent s y = served s y
+
+-- whether a rule's date is one of the year: a day of a month may be none
+abbrev pub dateExists : Rule → Style → ℕ → Bool
+dateExists (hung z) s y = true
+dateExists (on d m) s y = isDate s y m d
+dateExists advent s y = true
+
+-- the day number of a rule
+abbrev pub ruleNumber : Rule → Style → ℕ → ℕ
+ruleNumber (hung z) s y = daysFrom z (easter s y)
+ruleNumber (on d m) s y = dayNumber s y m d
+ruleNumber advent s y = adventSunday s y
+
+-- the tests of a rule in the named year t
+abbrev pub ruleTests : NamedYear → Rule → List Test
+ruleTests t r =
+    Year unless servedFor r (t .style) (t .year)
+    ∷ Date unless dateExists r (t .style) (t .year)
+    ∷ Span unless inSpan (t .style) (ruleNumber r (t .style) (t .year))
+    ∷ []
+
+-- the day of a rule in the named year t, refused by 4, 5 or 6
 abbrev pub ruleDay : NamedYear → Rule → DayAnswer
-ruleDay t (before k) = hungDay t (easter (t .style) (t .year) - k)
-ruleDay t (after k) = hungDay t (easter (t .style) (t .year) + k)
-ruleDay t (on d m) = dayInYear t m d
-ruleDay t advent = unless (served (t .style) (t .year)) (NoDay Year) (within (t .style) (adventSunday (t .style) (t .year)))
+ruleDay t r = checked NoDay (Day (ruleNumber r (t .style) (t .year))) (ruleTests t r)
 
--- refusal 1: "a .. feast number given to a public call is not in its list"
+-- the tests of the feast with the number f: refusal 1, "a .. feast number given to a public call is not in its list", and those of its rule
+abbrev pub feastTests : NamedYear → ℕ → List Test
+feastTests t f = Name unless between 1 f 48 ∷ ruleTests t (rule f)
+
+-- the day of the feast with the number f in the named year t, refused by 1, 4, 5 or 6
 unfoldable pub feastInYear : NamedYear → ℕ → DayAnswer
-feastInYear t f = unless (between 1 f 48) (NoDay Name) (ruleDay t (rule f))
+feastInYear t f = checked NoDay (Day (ruleNumber (rule f) (t .style) (t .year))) (feastTests t f)
 
 -- feast in the style with the number k: refused by 1, and else as in the style
 abbrev pub feastOfYear : ℕ → ℕ → ℕ → DayAnswer

@@ -4,18 +4,20 @@ use calendar::date::day_in_year;
 use calendar::refusal::Refusal;
 use calendar::span::DayAnswer;
 use calendar::style::Style;
-use calendar::weekday::SUNDAY;
 use calendar::weekday::Side;
 use calendar::weekday::first_weekday;
 use calendar::year::NamedYear;
 ghost use mathlib.Core.Path.{_≡_};
 ghost use Prim.Native.Nat.{_+_, _-_, _≤_};
-ghost use Rattle.calendar.specs.Refusal.{unless};
+ghost use Rattle.calendar.specs.Refusal.{checked};
+ghost use Rattle.calendar.specs.Span.{earliest, latest};
 ghost use Rattle.calendar.specs.Weekday.{sunday, firstWeekday};
-ghost use Rattle.calendar.specs.declared.refusal.Refusal.the-variants.{Year};
 ghost use Rattle.calendar.specs.declared.span.DayAnswer.the-variants.{Day, NoDay};
 ghost use Rattle.calendar.specs.declared.weekday.Side.the-variants.{After};
-ghost use Rattle.church.specs.Easter.{limit, march, easter, reformYear, hasEaster};
+ghost use Rattle.church.specs.Easter.{limit, march, easter, reformYear, easterTests};
+
+// Sunday's number.
+pub(crate) const SUNDAY: u64 = 7;
 
 // The limit, a day of March run on past 31.
 pub(crate) fn limit_of_year(named: NamedYear) -> u64
@@ -37,7 +39,7 @@ fn is_reform_year(named: NamedYear) -> bool
 
 // The day of 21 March, where the year's Easter is answered, and else 4.
 pub(crate) fn equinox(named: NamedYear) -> DayAnswer
-    ensures { λ r. ⌜ r ≡ unless (hasEaster (named .style) (named .year)) (NoDay Year) (Day (march (named .style) (named .year) 21)) ⌝ }
+    ensures { λ r. ⌜ r ≡ checked NoDay (Day (march (named .style) (named .year) 21)) (easterTests named) ⌝ }
 {
     if is_reform_year(named) {
         return DayAnswer::NoDay(Refusal::Year);
@@ -47,7 +49,7 @@ pub(crate) fn equinox(named: NamedYear) -> DayAnswer
 
 // The first Sunday after a limit of the year whose 21 March is given.
 pub(crate) fn easter_after(equinox: u32, limit: u64) -> u32
-    requires { ⌜ (1721424 ≤ equinox) × (equinox ≤ 5373557) × (21 ≤ limit) × (limit ≤ 49) ⌝ }
+    requires { ⌜ (earliest ≤ equinox) × (equinox ≤ latest) × (21 ≤ limit) × (limit ≤ 49) ⌝ }
     ensures { λ r. ⌜ r ≡ firstWeekday After sunday (equinox + limit - 21) ⌝ }
 {
     let limit_day = equinox + limit as u32 - 21;
@@ -56,7 +58,7 @@ pub(crate) fn easter_after(equinox: u32, limit: u64) -> u32
 
 // Easter, where the year's is answered, and else 4.
 pub(crate) fn easter_of_year(named: NamedYear) -> DayAnswer
-    ensures { λ r. ⌜ r ≡ unless (hasEaster (named .style) (named .year)) (NoDay Year) (Day (easter (named .style) (named .year))) ⌝ }
+    ensures { λ r. ⌜ r ≡ checked NoDay (Day (easter (named .style) (named .year))) (easterTests named) ⌝ }
 {
     let answer = equinox(named);
     let DayAnswer::Day(equinox) = answer else {

@@ -1,4 +1,5 @@
 // Feasts by their numbers: 1 to 23 hang on Easter, 24 to 47 are fixed, 48 is advent.
+use crate::easter::SUNDAY;
 use crate::easter::easter_of_year;
 use calendar::date::day_in_year;
 use calendar::range::is_between;
@@ -7,7 +8,6 @@ use calendar::span::DayAnswer;
 use calendar::span::day_within;
 use calendar::style::StyleAnswer;
 use calendar::style::style_of;
-use calendar::weekday::SUNDAY;
 use calendar::weekday::Side;
 use calendar::weekday::first_weekday;
 use calendar::year::NamedYear;

@@ -1,61 +1,53 @@
 -- What holds of the dating line, the writer and the answer as text beyond the contracts of their calls.
-use mathlib.Core.Bool.{true, false, Bool}
+use mathlib.Core.Bool.{Bool, true, false, cond}
 use mathlib.Core.List.{List}
 use mathlib.Core.Logic.{_↔_, _⊎_, inl, inr}
 use mathlib.Core.Path.{_≡_, refl, sym, ap, _∙_, subst}
-use Prim.Native.Nat.{ℕ, _+_, _≤_}
+use Prim.Native.Nat.{ℕ, _+_, _<_, _≤_}
+use native.Mathlib.Decide.{decLt}
 use native.Mathlib.Omega.{arith}
 use lib.Dec.{leb}
 use lib.ListN.{length, take, drop}
 use lib.Seq.{sets, take-append-seam}
 use borrow.Author.Tests.{le-leb}
 use denote.Ref.{RefT, ptr, now}
-use Rattle.calendar.proofs.refusal.Laws.{no-day}
+use Rattle.calendar.proofs.refusal.Laws.{refusal-digit, above, at-most, given, no-day, passed}
 use Rattle.calendar.proofs.span.Laws.{span-small}
-use Rattle.calendar.proofs.style.Laws.{by-number, by-cases}
+use Rattle.calendar.proofs.style.Laws.{by-number, both-in, given-of-any}
+use Rattle.church.proofs.feast.Laws.{in-table}
 use Rattle.words.proofs.text.Laws.{no-false}
 use Rattle.dating.proofs.anchor.Laws.{three-bytes}
-use Rattle.dating.proofs.answer.Laws.{reading-text}
-use Rattle.dating.proofs.line.Laws as line-laws
-use Rattle.dating.proofs.part.Laws as part-laws
+use Rattle.dating.proofs.answer.Laws.{one-dated}
+pub use Rattle.dating.proofs.answer.Laws.{answer-length}
+use Rattle.dating.proofs.line.Laws.{line-map}
+pub use Rattle.dating.proofs.line.Laws.{one-reading, one-answer}
 use Rattle.dating.proofs.part.Laws.{anchor-good}
-use Rattle.dating.proofs.phrase.Laws as phrase-laws
-use Rattle.dating.proofs.phrase.Laws.{later}
-use Rattle.dating.proofs.writer.Laws as writer-laws
-use Rattle.dating.proofs.writer.Laws.{reads-back, one-refusal, one-in-style, WriteNumber, number-in-style}
+pub use Rattle.dating.proofs.part.Laws.{part-stands}
+use Rattle.dating.proofs.phrase.Laws.{stays-last}
+pub use Rattle.dating.proofs.phrase.Laws.{wrapper-acts}
+use Rattle.dating.proofs.writer.Laws.{text-length, seven-bytes, reads-back, one-refusal}
+pub use Rattle.dating.proofs.writer.Laws.{one-writing-in-style}
+use Rattle.calendar.specs.Date.{dayInYear}
 use Rattle.calendar.specs.Range.{between}
-use Rattle.calendar.specs.Refusal.{unless}
-use Rattle.calendar.specs.Span.{inSpan, within, dayOrRefusal}
-use Rattle.calendar.specs.Style.{styleOf, inStyle, styleNumber}
-use Rattle.calendar.specs.Year.{served}
+use Rattle.calendar.specs.Refusal.{refusalNumber, Holds, Lowest}
+use Rattle.calendar.specs.Span.{earliest, latest, inSpan, dayOrRefusal}
+use Rattle.calendar.specs.Style.{styleOf, styleNumber, byNumber}
+use Rattle.church.specs.Feast.{feastInYear}
 use Rattle.words.specs.Told.{produced, unproduced}
-use Rattle.dating.specs.Act.{moved, acted}
-use Rattle.dating.specs.Anchor.{anchorDay}
-use Rattle.dating.specs.Answer.{IsAnswer, PutsAnswer}
-use Rattle.dating.specs.Line.{Line, spellLine, GoodLine, lineDay, LineTold, unfit, fit, IsDayOfLine, IsNumberOfLine}
+use Rattle.dating.specs.Anchor.{feast, date}
+use Rattle.dating.specs.Answer.{refusedText, IsAnswer, dated, refused, PutsText, PutsAnswer}
+use Rattle.dating.specs.Line.{Line, spellLine, GoodLine, lineDay, lengthFits, unfit, fit, IsDayOfLine, LineHolds, IsNumberOfLine}
 use Rattle.dating.specs.Part.{anchorPart, linePart, Part, IsPart, PartOf}
-use Rattle.dating.specs.Phrase.{Phrase, plain, wrapped, anchorOf, wrappersAct, phraseDay}
-use Rattle.dating.specs.Writer.{IsDateText, Refuses, Puts, bytesOrRefusal, WritesInStyle, Writes}
+use Rattle.dating.specs.Phrase.{plain, anchorOf, comesTo, staysIn, yearServed, dateThere, startDay, phraseTests, phraseDay}
+use Rattle.dating.specs.Writer.{IsDateText, bytesOrRefusal, writeTests, Refuses, Puts, Writes}
+use Rattle.calendar.specs.declared.refusal.Refusal.the-variants.{Length, Form}
 use Rattle.calendar.specs.declared.refusal.Refusal.{Refusal}
-use Rattle.calendar.specs.declared.refusal.Refusal.the-variants.{Name, Length, Form, Year, Date, Span}
-use Rattle.calendar.specs.declared.span.DayAnswer.{DayAnswer}
 use Rattle.calendar.specs.declared.span.DayAnswer.the-variants.{Day, NoDay}
+use Rattle.calendar.specs.declared.span.DayAnswer.{DayAnswer}
 use Rattle.calendar.specs.declared.style.Style.{Style}
-use Rattle.calendar.specs.declared.style.StyleAnswer.{StyleAnswer}
-use Rattle.calendar.specs.declared.style.StyleAnswer.the-variants.{Known, NoStyle}
 use Rattle.calendar.specs.declared.year.NamedYear.{NamedYear}
-use Rattle.words.specs.declared.wrapper.Wrapper.{Wrapper}
-use Rattle.dating.specs.declared.writer.WriteAnswer.{WriteAnswer}
 use Rattle.dating.specs.declared.writer.WriteAnswer.the-variants.{Bytes}
-
--- No bytes are spelled by two good lines.
-pub one-reading : (l m : Line) → GoodLine l → GoodLine m → spellLine l ≡ spellLine m → l ≡ m
-one-reading l m g h e = line-laws.one-line l m g h e
-
--- Any two answers that a call of the line may give are equal, whatever it asks of the line.
-pub one-answer : {R : Type 0} {meaning : Line → R} {refused : Refusal → R} {s : List ℕ} (r q : R)
-    → LineTold meaning refused s r → LineTold meaning refused s q → r ≡ q
-one-answer r q h k = line-laws.one-answer r q h k
+use Rattle.dating.specs.declared.writer.WriteAnswer.{WriteAnswer}
 
 -- Any two parts that may be handed out are the same bytes at the same place.
 pub one-part : (x r q : RefT (List ℕ)) → PartOf x r → PartOf x q → (now r ≡ now q) × (ptr r ≡ ptr q)
@@ -64,11 +56,6 @@ one-part x r q h k =
     let offsets = h .offset ∙ ap (λ (p : Part). p .start + ptr x .1) same ∙ sym (k .offset) in
     let blocks = h .block ∙ sym (k .block) in
     (h .contents ∙ ap (λ (p : Part). p .text) same ∙ sym (k .contents), λ i. (blocks i, offsets i))
-
--- The part stands in the line where it is said to.
-pub part-stands : (s : List ℕ) (p : Part) → IsPart s p
-    → (p .start + length (p .text) ≤ length s) × (take (length (p .text)) (drop (p .start) s) ≡ p .text)
-part-stands s p h = part-laws.stands s p h
 
 -- The part of an accepted line is not empty.
 pub part-some : (s : List ℕ) (n : ℕ) (p : Part) → IsDayOfLine s (Day n) → IsPart s p → 1 ≤ length (p .text)
@@ -80,118 +67,133 @@ part-some s n p (fit h (produced l g e m)) part =
     let some = three-bytes (anchorOf (l .phrase)) (anchor-good (l .phrase) (g .phrase)) in
     rw same (omega arith)
 
--- A wrapper acts on the day of the phrase behind it.
-pub wrapper-acts : (t : NamedYear) (w : Wrapper) (p : Phrase) → phraseDay t (wrapped w p) ≡ acted (t .style) w (phraseDay t p)
-wrapper-acts t w p = phrase-laws.wrapper-acts t w p
+-- A phrase without wrappers is answered as the call for its feast, or for date to day.
+pub plain-feast : (t : NamedYear) (f : ℕ) → between 1 f 48 ≡ true → phraseDay t (plain (feast f)) ≡ feastInYear t f
+unfolding phraseDay comesTo staysIn anchorOf
+plain-feast t f e = sym (in-table t f e)
 
--- a phrase comes to the day n in the named year: its feast or date is a day, and every day on the way lies in the span
-unfoldable pub ComesTo : NamedYear → Phrase → ℕ → Type 0
-ComesTo t (plain a) n = (anchorDay t a ≡ Day n) × (inSpan (t .style) n ≡ true)
-ComesTo t (wrapped w p) n = (m : ℕ) × (ComesTo t p m × ((moved w m ≡ n) × (inSpan (t .style) n ≡ true)))
+pub plain-date : (t : NamedYear) (d m : ℕ) → phraseDay t (plain (date d m)) ≡ dayInYear t m d
+unfolding phraseDay comesTo staysIn anchorOf dayInYear
+plain-date t d m = refl
 
-comes-to : (t : NamedYear) (p : Phrase) (n : ℕ) → phraseDay t p ≡ Day n → ComesTo t p n
-unfolding phraseDay wrappersAct anchorOf ComesTo
-comes-to t (plain a) n e = (e, phrase-laws.phrase-in-span t (plain a) n e)
-comes-to t (wrapped w p) n e =
-    let m = phrase-laws.behind-day (t .style) w (phraseDay t p) n e in
-    (m .0, (comes-to t p (m .0) (m .1), (m .2, phrase-laws.phrase-in-span t (wrapped w p) n e)))
+-- The bytes s are a dating line that is accepted with the day n, part by part.
+pub record Accepted (s : List ℕ) (n : ℕ) : Type 0 where
+  -- they are 1 to 120
+  pub fits : lengthFits s ≡ true
+  -- the grammar produces them
+  pub line : Line
+  pub good : GoodLine line
+  pub spelled : spellLine line ≡ s
+  -- the year is served for that feast or date
+  pub year : yearServed (line .named) (line .phrase) ≡ true
+  -- the feast or date is a day of that year, and every day on the way lies in the span, its own too
+  pub date : dateThere (line .named) (line .phrase) ≡ true
+  pub way : staysIn (line .named .style) (line .phrase) (startDay (line .named) (line .phrase)) ≡ true
+  -- the answer is the day that the phrase comes to
+  pub day : comesTo (line .phrase) (startDay (line .named) (line .phrase)) ≡ n
 
-day-of : (t : NamedYear) (p : Phrase) (n : ℕ) → ComesTo t p n → phraseDay t p ≡ Day n
-unfolding phraseDay wrappersAct anchorOf ComesTo within
-day-of t (plain a) n h = h .0
-day-of t (wrapped w p) n h = rw (day-of t p (h .0) (h .1 .0), h .1 .1 .0, h .1 .1 .1)
-
-day-number : (a : DayAnswer) (n : ℕ) → 1721424 ≤ n → n ≡ dayOrRefusal a → a ≡ Day n
-day-number (Day m) n h e = ap Day (sym e)
-day-number (NoDay Name) n h e = absurd (omega arith)
-day-number (NoDay Length) n h e = absurd (omega arith)
-day-number (NoDay Form) n h e = absurd (omega arith)
-day-number (NoDay Year) n h e = absurd (omega arith)
-day-number (NoDay Date) n h e = absurd (omega arith)
-day-number (NoDay Span) n h e = absurd (omega arith)
-
--- A line is answered by a day exactly when it has 1 to 120 bytes, the grammar produces it, and its phrase comes to that day in its year.
-pub accepted : (s : List ℕ) (n : ℕ) → 1721424 ≤ n
-    → IsNumberOfLine s n ↔ ((between 1 (length s) 120 ≡ true) × ((l : Line) × (GoodLine l × ((spellLine l ≡ s) × ComesTo (l .named) (l .phrase) n))))
-unfolding lineDay
-accepted s n h = (forth, λ k. fit (k .0) (produced (k .1 .0) (k .1 .1 .0) (k .1 .1 .1 .0) (ap dayOrRefusal (sym (day-of _ _ n (k .1 .1 .1 .1))))))
+-- A line is answered by a day exactly when it is accepted with it.
+pub accepted : (s : List ℕ) (n : ℕ) → IsDayOfLine s (Day n) ↔ Accepted s n
+unfolding lineDay phraseDay
+accepted s n =
+    (forth, λ k. fit (k .fits) (produced (k .line) (k .good) (k .spelled) (sym (rw (k .year, k .date, k .way, k .day) refl))))
   where
-    forth : IsNumberOfLine s n → (between 1 (length s) 120 ≡ true) × ((l : Line) × (GoodLine l × ((spellLine l ≡ s) × ComesTo (l .named) (l .phrase) n)))
-    forth (unfit b m) = absurd (omega arith)
-    forth (fit b (produced l g e m)) = (b, (l, (g, (e, comes-to (l .named) (l .phrase) n (day-number (phraseDay (l .named) (l .phrase)) n h m)))))
-    forth (fit b (unproduced none m)) = absurd (omega arith)
+    forth : IsDayOfLine s (Day n) → Accepted s n
+    forth (unfit b m) = no-day Length n (sym m)
+    forth (fit b (unproduced none m)) = no-day Form n (sym m)
+    forth (fit b (produced l g e m)) =
+        let k = passed (phraseTests (l .named) (l .phrase)) _ n (sym m) in
+        record { fits = b; line = l; good = g; spelled = e; year = k .0 .0; date = k .0 .1 .0; way = k .0 .1 .1 .0; day = k .1 }
 
--- The year of a line that is answered by a day is served.
-pub year-served : (l : Line) (n : ℕ) → lineDay l ≡ Day n → served (l .named .style) (l .named .year) ≡ true
-unfolding lineDay
-year-served l n e = phrase-laws.phrase-served (l .named) (l .phrase) n e
+day-number : (a : DayAnswer) (n : ℕ) → earliest ≤ n → n ≡ dayOrRefusal a → Day n ≡ a
+day-number (Day m) n h e = ap Day e
+day-number (NoDay x) n h e = absurd (omega (arith, refusal-digit x))
 
--- the numbers that a phrase of the grammar can be answered by
-abbrev pub PhraseNumber : ℕ → Type 0
-PhraseNumber n = (n ≡ 4) ⊎ ((n ≡ 5) ⊎ ((n ≡ 6) ⊎ ((1721424 ≤ n) × (n ≤ 5373557))))
+-- A line's one number is a day, which is a number from 1721424 on, exactly when the line is accepted with it.
+pub accepted-number : (s : List ℕ) (n : ℕ) → earliest ≤ n → IsNumberOfLine s n ↔ Accepted s n
+accepted-number s n h = (λ k. accepted s n .0 (forth k), λ k. line-map dayOrRefusal (Day n) (accepted s n .1 k))
+  where
+    forth : IsNumberOfLine s n → IsDayOfLine s (Day n)
+    forth (unfit b m) = unfit b (day-number (NoDay Length) n h m)
+    forth (fit b (unproduced none m)) = fit b (unproduced none (day-number (NoDay Form) n h m))
+    forth (fit b (produced l g e m)) = fit b (produced l g e (day-number (lineDay l) n h m))
 
-phrase-number : (t : NamedYear) (p : Phrase) (a : DayAnswer) → phraseDay t p ≡ a → later a ≡ true → PhraseNumber (dayOrRefusal a)
-phrase-number t p (Day n) e h = inr (inr (inr (span-small (t .style) n (phrase-laws.phrase-in-span t p n e))))
-phrase-number t p (NoDay Name) e h = no-false (sym h)
-phrase-number t p (NoDay Length) e h = no-false (sym h)
-phrase-number t p (NoDay Form) e h = no-false (sym h)
-phrase-number t p (NoDay Year) e h = inl refl
-phrase-number t p (NoDay Date) e h = inr (inl refl)
-phrase-number t p (NoDay Span) e h = inr (inr (inl refl))
-
-line-number : (l : Line) → GoodLine l → PhraseNumber (dayOrRefusal (lineDay l))
-unfolding lineDay
-line-number l g =
+-- the number of a line of the grammar, by its tests
+by-tests : (l : Line) (n : ℕ) → n < earliest → (dayOrRefusal (lineDay l) ≡ n) ↔ Lowest (Holds (phraseTests (l .named) (l .phrase))) n
+unfolding lineDay phraseDay
+by-tests l n low =
     let t = l .named in
     let p = l .phrase in
-    phrase-number t p (phraseDay t p) refl (phrase-laws.later-phrase t p (g .phrase))
+    given dayOrRefusal NoDay (λ x. refl) n (Day (comesTo p (startDay t p))) 0 (phraseTests t p) tt
+    (λ all e. omega (arith, span-small (t .style) _ (stays-last (t .style) p (startDay t p) (all .1 .1 .0))))
 
-no-phrase : {A : Type 0} (n : ℕ) → n ≤ 3 → PhraseNumber n → A
-no-phrase n h (inl e) = absurd (omega arith)
-no-phrase n h (inr (inl e)) = absurd (omega arith)
-no-phrase n h (inr (inr (inl e))) = absurd (omega arith)
-no-phrase n h (inr (inr (inr e))) = absurd (omega (arith, e))
+-- the numbers that may hold of a line of the grammar, and of any bytes
+later : (l : Line) (x : Refusal) → Holds (phraseTests (l .named) (l .phrase)) x → (3 < refusalNumber x) × (refusalNumber x ≤ 6)
+later l x h = let ts = phraseTests (l .named) (l .phrase) in (above 3 ts x tt h, at-most 6 ts x tt h)
 
--- A line's number is 2, 3, 4, 5, 6 or a day of a span.
-pub line-numbers : (s : List ℕ) (n : ℕ) → IsNumberOfLine s n → (n ≡ 2) ⊎ ((n ≡ 3) ⊎ PhraseNumber n)
-line-numbers s n (unfit b m) = inl m
-line-numbers s n (fit b (produced l g e m)) = inr (inr (rw m (line-number l g)))
-line-numbers s n (fit b (unproduced none m)) = inr (inl m)
+its-numbers : (s : List ℕ) (x : Refusal) → LineHolds s x → (2 ≤ refusalNumber x) × (refusalNumber x ≤ 6)
+its-numbers s x (inl h) = rw (← h .0) (omega arith, omega arith)
+its-numbers s x (inr (inl h)) = rw (← h .0) (omega arith, omega arith)
+its-numbers s x (inr (inr (l, (g, (e, h))))) = let k = later l x h in (omega arith, k .1)
 
--- A line is refused by 2 exactly when it has 0 or more than 120 bytes.
-pub refused-by-2 : (s : List ℕ) → IsNumberOfLine s 2 ↔ (between 1 (length s) 120 ≡ false)
-refused-by-2 s = (forth, λ b. unfit b refl)
+-- "The lowest number that holds is given, and none otherwise": a line is refused by n exactly when it is that.
+pub line-refused : (s : List ℕ) (n : ℕ) → n < earliest → IsNumberOfLine s n ↔ Lowest (LineHolds s) n
+line-refused s n low = (forth, λ k. back _ refl k (k .refusal) (k .number) (k .holds))
   where
-    forth : IsNumberOfLine s 2 → between 1 (length s) 120 ≡ false
-    forth (unfit b m) = b
-    forth (fit b (produced l g e m)) = no-phrase 2 (omega arith) (rw (← m) at (line-number l g))
-    forth (fit b (unproduced none m)) = absurd (omega arith)
+    forth : IsNumberOfLine s n → Lowest (LineHolds s) n
+    forth (unfit b m) =
+        record { refusal = Length; holds = inl (refl, b); number = sym m; lowest = λ x h. omega (arith, m, its-numbers s x h) }
+    forth (fit b (unproduced none m)) = record { refusal = Form; holds = inr (inl (refl, none)); number = sym m; lowest = λ x h. first x h }
+      where
+        first : (x : Refusal) → LineHolds s x → n ≤ refusalNumber x
+        first x (inl h) = no-false (sym b ∙ h .1)
+        first x (inr (inl h)) = rw (m, ← h .0) (omega arith)
+        first x (inr (inr h)) = absurd (none (h .0) (h .1 .0) (h .1 .1 .0))
+    forth (fit b (produced l g e m)) =
+        let k = by-tests l n low .0 (sym m) in
+        record { refusal = k .refusal; holds = inr (inr (l, (g, (e, k .holds)))); number = k .number; lowest = λ x h. first k x h }
+      where
+        first : Lowest (Holds (phraseTests (l .named) (l .phrase))) n → (x : Refusal) → LineHolds s x → n ≤ refusalNumber x
+        first k x (inl h) = no-false (sym b ∙ h .1)
+        first k x (inr (inl h)) = absurd (h .1 l g e)
+        first k x (inr (inr (l′, (g′, (e′, h))))) = let same = one-reading l′ l g′ g (e′ ∙ sym e) in k .lowest x (rw same at h)
 
--- A line is refused by 3 exactly when it has 1 to 120 bytes and the grammar does not produce it.
-pub refused-by-3 : (s : List ℕ) → IsNumberOfLine s 3 ↔ ((between 1 (length s) 120 ≡ true) × ((l : Line) → GoodLine l → spellLine l ≡ s → ⊥))
-refused-by-3 s = (forth, λ k. fit (k .0) (unproduced (k .1) refl))
-  where
-    forth : IsNumberOfLine s 3 → (between 1 (length s) 120 ≡ true) × ((l : Line) → GoodLine l → spellLine l ≡ s → ⊥)
-    forth (unfit b m) = absurd (omega arith)
-    forth (fit b (produced l g e m)) = no-phrase 3 (omega arith) (rw (← m) at (line-number l g))
-    forth (fit b (unproduced none m)) = (b, none)
+    back : (b : Bool) → lengthFits s ≡ b → Lowest (LineHolds s) n → (x : Refusal) → refusalNumber x ≡ n → LineHolds s x
+        → IsNumberOfLine s n
+    back b fits k x e (inl h) = unfit (h .1) (rw (← e, ← h .0))
+    back false fits k x e (inr (inl h)) = absurd (omega (arith, e, k .lowest Length (inl (refl, fits)), ap refusalNumber (h .0)))
+    back true fits k x e (inr (inl h)) = fit fits (unproduced (h .1) (rw (← e, ← h .0)))
+    back false fits k x e (inr (inr h)) = absurd (omega (arith, e, k .lowest Length (inl (refl, fits)), later (h .0) x (h .1 .1 .1)))
+    back true fits k x e (inr (inr (l, (g, (sp, h))))) =
+        let first : Lowest (Holds (phraseTests (l .named) (l .phrase))) n =
+        record { refusal = x; holds = h; number = e; lowest = λ y i. k .lowest y (inr (inr (l, (g, (sp, i))))) } in
+        fit fits (produced l g sp (sym (by-tests l n low .1 first)))
 
--- Any two results of the writer are one: the same answer, and the same bytes in the buffer.
+-- A line's number lies from 2 to 6, or is a day of a span.
+pub line-numbers : (s : List ℕ) (n : ℕ) → IsNumberOfLine s n → ((2 ≤ n) × (n ≤ 6)) ⊎ ((earliest ≤ n) × (n ≤ latest))
+line-numbers s n h =
+    elim (decLt n earliest) [
+      | yes low ↦ let k = line-refused s n low .0 h in inl (rw (k .number) at (its-numbers s (k .refusal) (k .holds)))
+      | no high ↦
+          let k = accepted-number s n (omega arith) .0 h in
+          inr (rw (k .day) at (span-small (k .line .named .style) _ (stays-last (k .line .named .style) (k .line .phrase) _ (k .way))))
+    ]
+
+-- Any two results of the writer are one: the same answer, and the same bytes in the buffer; in a style `one-writing-in-style`.
 pub one-writing : (k n : ℕ) (before a b : List ℕ) (r q : WriteAnswer) → Writes before a r k n → Writes before b q k n → (r ≡ q) × (a ≡ b)
-one-writing k n before a b r q h g = go (styleOf k) h g
-  where
-    go : (x : StyleAnswer) → inStyle (Refuses before a r) (λ s. WritesInStyle before a r s n) x → inStyle (Refuses before b q) (λ s. WritesInStyle before b q s n) x → (r ≡ q) × (a ≡ b)
-    go (Known s) h g = one-in-style before a b r q s n h g
-    go (NoStyle x) h g = one-refusal before a b r q x h g
+one-writing k n before a b r q h g = both-in (styleOf k) (λ s. one-writing-in-style before a b r q s n) (one-refusal before a b r q) h g
 
-pub one-writing-in-style : (s : Style) (n : ℕ) (before a b : List ℕ) (r q : WriteAnswer) → WritesInStyle before a r s n → WritesInStyle before b q s n → (r ≡ q) × (a ≡ b)
-one-writing-in-style s n before a b r q h g = writer-laws.one-in-style before a b r q s n h g
+-- "The lowest number that holds is given, and none otherwise": the writer is refused by j exactly when it is that.
+pub write-refused : (k n j : ℕ) (before after : List ℕ) (r : WriteAnswer) → j < 7 → Writes before after r k n
+    → (bytesOrRefusal r ≡ j) ↔ Lowest (Holds (byNumber (λ s. writeTests (length before) s n) k)) j
+write-refused k n j before after r small h =
+    given-of-any (Refuses before after r) (λ s. (w : List ℕ) × (IsDateText s n w × Puts before after r w)) (bytesOrRefusal r)
+    (λ x h. ap bytesOrRefusal (h .0)) j (λ s. writeTests (length before) s n) (λ s. tt)
+    (λ s h e. omega (arith, ap bytesOrRefusal (h .1 .1 .0), seven-bytes s n (h .0) (h .1 .0))) k h
 
--- The writer's number is 1, 2 or 6, or the bytes that it wrote, 7 to 12.
-pub write-numbers : (k n : ℕ) (before after : List ℕ) (r : WriteAnswer) → Writes before after r k n → WriteNumber (bytesOrRefusal r)
-write-numbers k n before after r h =
-    by-cases (λ x. inStyle (Refuses before after r) (λ s. WritesInStyle before after r s n) x → WriteNumber (bytesOrRefusal r))
-    (λ s h. number-in-style before after r s n h) (λ h. inl (ap bytesOrRefusal (h .0))) k h
+-- A date is written with 7 to 12 bytes, so that the number of bytes is no refusal's.
+pub written-bytes : (s : Style) (n : ℕ) (w : List ℕ) → IsDateText s n w → (7 ≤ length w) × (length w ≤ 12)
+written-bytes s n w t = (seven-bytes s n w t, text-length s n w t)
 
 -- Every day of a style's span is written where the buffer has 12 bytes, and the bytes written, read as a dating line, give the same day.
 pub read-back : (s : Style) (n : ℕ) (before after : List ℕ) (r : WriteAnswer) → 12 ≤ length before → inSpan s n ≡ true
@@ -203,19 +205,40 @@ read-back s n before after r room i h = go (rw (by-number s, le-leb 12 (length b
         let written = ap (take (length (k .0))) (k .1 .1 .1) ∙ take-append-seam (k .0) (drop (length (k .0)) before) in
         (length (k .0), (k .1 .1 .0, subst (λ (x : List ℕ). IsDayOfLine x (Day n)) (sym written) (reads-back s n (k .0) (k .1 .0))))
 
--- A line has one answer as text.
+-- A line has no two answers as text.
 pub one-text : (s t u : List ℕ) → IsAnswer s t → IsAnswer s u → t ≡ u
-one-text s t u h k =
-    let same : h .0 ≡ k .0 = one-answer (h .0) (k .0) (h .1 .0) (k .1 .0) in
-    reading-text (k .0) t u (rw same at (h .1 .1)) (k .1 .1)
+one-text s t u (refused x h p) (refused x′ h′ q) =
+    let same = one-answer (NoDay x) (NoDay x′) h h′ in
+    let its : x ≡ x′ = cc in
+    p ∙ ap refusedText its ∙ sym q
+one-text s t u (refused x h p) (dated y n h′ k q) = no-day x n (one-answer (NoDay x) (Day n) h h′)
+one-text s t u (dated y n h k p) (refused x h′ q) = no-day x n (one-answer (NoDay x) (Day n) h′ h)
+one-text s t u (dated y n h (l, (g, (e, st))) p) (dated y′ n′ h′ (l′, (g′, (e′, st′))) q) =
+    let same = one-answer (Day n) (Day n′) h h′ in
+    let day : n ≡ n′ = cc in
+    let style : y ≡ y′ = sym st ∙ ap (λ (l : Line). l .named .style) (one-reading l l′ g g′ (e ∙ sym e′)) ∙ st′ in
+    one-dated y′ n′ t u (rw (style, day) at p) q
 
 -- Any two results of putting a line's answer are one: the same length, and the same bytes in the buffer.
-pub one-putting : (s : List ℕ) (i : ℕ) (before a b : List ℕ) (r q : ℕ) → PutsAnswer s i before a r → PutsAnswer s i before b q → (r ≡ q) × (a ≡ b)
+pub one-putting : (s : List ℕ) (i : ℕ) (before a b : List ℕ) (r q : ℕ)
+    → PutsAnswer s i before a r → PutsAnswer s i before b q → (r ≡ q) × (a ≡ b)
 one-putting s i before a b r q h g = go (leb (i + 25) (length before)) h g
   where
-    go : (c : Bool) → unless c ((r ≡ 0) × (a ≡ before)) ((t : List ℕ) × (IsAnswer s t × ((r ≡ length t) × (a ≡ sets before i t))))
-        → unless c ((q ≡ 0) × (b ≡ before)) ((t : List ℕ) × (IsAnswer s t × ((q ≡ length t) × (b ≡ sets before i t)))) → (r ≡ q) × (a ≡ b)
+    go : (c : Bool) → cond c ((t : List ℕ) × (IsAnswer s t × PutsText i before a r t)) ((r ≡ 0) × (a ≡ before))
+        → cond c ((t : List ℕ) × (IsAnswer s t × PutsText i before b q t)) ((q ≡ 0) × (b ≡ before)) → (r ≡ q) × (a ≡ b)
     go false h g = (h .0 ∙ sym (g .0), h .1 ∙ sym (g .1))
-    go true h g =
-        let same = one-text s (h .0) (g .0) (h .1 .0) (g .1 .0) in
-        (h .1 .1 .0 ∙ ap length same ∙ sym (g .1 .1 .0), h .1 .1 .1 ∙ ap (sets before i) same ∙ sym (g .1 .1 .1))
+    go true (t, (p, h)) (u, (k, g)) =
+        let same = one-text s t u p k in
+        (h .0 ∙ ap length same ∙ sym (g .0), h .1 ∙ ap (sets before i) same ∙ sym (g .1))
+
+-- Putting a line's answer is answered by 0 exactly where fewer than 25 bytes stand at the place.
+pub zero-no-room : (s : List ℕ) (i : ℕ) (before after : List ℕ) (r : ℕ) → PutsAnswer s i before after r
+    → (r ≡ 0) ↔ (leb (i + 25) (length before) ≡ false)
+zero-no-room s i before after r h = go (leb (i + 25) (length before)) h
+  where
+    go : (c : Bool) → cond c ((t : List ℕ) × (IsAnswer s t × PutsText i before after r t)) ((r ≡ 0) × (after ≡ before))
+        → (r ≡ 0) ↔ (c ≡ false)
+    go false h = (λ z. refl, λ f. h .0)
+    go true (t, (told, put)) =
+        let some = answer-length s t told .2 in
+        (λ z. absurd (omega (arith, put .0)), λ f. no-false f)

@@ -1,17 +1,19 @@
 -- The scope's cases that are to be proved, in its order: rows of one table, under one claim.
 use mathlib.Core.Bool.{Bool, true, false}
-use mathlib.Core.List.{List, [], _∷_}
+use mathlib.Core.List.{List, [], _∷_, _++_}
 use mathlib.Core.Path.{_≡_, refl}
 use Prim.Native.Char.{code}
 use Prim.Native.Nat.{ℕ}
 use Prim.Native.String.{String}
 use native.Mathlib.Omega.{arith}
+use lib.ListN.{length}
 use Rattle.dating.proofs.Table.{All, none, _also_}
 use Rattle.church.proofs.letter.Laws.{sundays}
-use Rattle.calendar.specs.Date.{daysOfMonths, isDate, dayNumber, dayInYear}
+use Rattle.calendar.specs.Date.{daysOfMonths, isDate, dayNumber}
 use Rattle.calendar.specs.Range.{between}
+use Rattle.calendar.specs.Refusal.{checked}
 use Rattle.calendar.specs.Search.{firstOf}
-use Rattle.calendar.specs.Span.{inSpan, within}
+use Rattle.calendar.specs.Span.{inSpan, dayOrRefusal}
 use Rattle.calendar.specs.Weekday.{weekday, firstWeekday}
 use Rattle.calendar.specs.Year.{named, daysOfYears, newYear, served}
 use Rattle.church.specs.Column.{stands, luna}
@@ -21,11 +23,13 @@ use Rattle.church.specs.Letter.{Part, first, second, SundayLetter}
 use Rattle.words.specs.Numeral.{decimal}
 use Rattle.words.specs.Text.{bytes}
 use Rattle.words.specs.Told.{produced}
-use Rattle.dating.specs.Anchor.{date, spellAnchor, GoodAnchor, anchorDay}
-use Rattle.dating.specs.Line.{spellLine, lineDay, fit, IsNumberOfLine}
-use Rattle.dating.specs.Phrase.{plain, wrapped, spellPhrase, GoodPhrase, anchorOf, wrappersAct, phraseDay}
+use Rattle.dating.specs.Anchor.{date, spellAnchor, GoodAnchor}
+use Rattle.dating.specs.Line.{ending, GoodYear, spellLine, lineDay, fit, IsNumberOfLine}
+use Rattle.dating.specs.Phrase.{Phrase, plain, wrapped, spellPhrase, GoodPhrase, anchorOf, comesTo, staysIn, startDay, phraseTests, phraseDay}
+use Rattle.calendar.specs.declared.span.DayAnswer.the-variants.{Day, NoDay}
 use Rattle.calendar.specs.declared.style.Style.the-variants.{Julian, Gregorian}
 use Rattle.calendar.specs.declared.style.Style.{Style}
+use Rattle.calendar.specs.declared.year.NamedYear.{NamedYear}
 use Rattle.words.specs.declared.wrapper.Wrapper.the-variants.{Eve, Morrow}
 
 -- what is said of a year, of a line, which is answered by a day or a refusal, and of a day
@@ -53,6 +57,16 @@ Holds (easter-key y s k) = key s y ≡ k
 Holds (tells line n) = IsNumberOfLine (bytes line) n
 Holds (falls n w) = weekday n ≡ w
 
+abbrev pub lineRows : List Row
+lineRows =
+    tells "29.2 1900 J" 2415092
+    ∷ falls 2415092 2
+    ∷ tells "15.10 1582 G" 2299161
+    ∷ tells "14.10 1582 G" 6
+    ∷ tells "29.2 1582 G" 5
+    ∷ tells "morrow of eve of 1.1 1 J" 6
+    ∷ []
+
 abbrev pub table : List Row
 table =
     year-epact 2025 Gregorian 0
@@ -79,17 +93,28 @@ table =
     ∷ sunday-letter 1225 Julian second (code "E")
     ∷ limit-on 1225 Julian 27 3
     ∷ easter-on 1225 Julian 30 3
-    ∷ tells "29.2 1900 J" 2415092
-    ∷ falls 2415092 2
-    ∷ tells "15.10 1582 G" 2299161
-    ∷ tells "14.10 1582 G" 6
-    ∷ tells "29.2 1582 G" 5
-    ∷ tells "morrow of eve of 1.1 1 J" 6
-    ∷ []
+    ∷ lineRows
 
--- Each row of the table holds: those of years by computation, those of lines by their trees.
+-- a line holds by its tree, the phrase p in the named year t
+read : {w : List ℕ} {n : ℕ} (p : Phrase) (t : NamedYear) → between 1 (length w) 120 ≡ true → GoodPhrase p → GoodYear t
+    → spellPhrase p ++ ending t ≡ w → n ≡ dayOrRefusal (checked NoDay (Day (comesTo p (startDay t p))) (phraseTests t p)) → IsNumberOfLine w n
+unfolding spellLine lineDay phraseDay
+read p t fits good year spelled told = fit fits (produced (record { phrase = p; named = t }) (record { phrase = good; year = year }) spelled told)
+
+lines-known : All Holds lineRows
+unfolding spellPhrase spellAnchor decimal GoodPhrase GoodAnchor comesTo staysIn anchorOf served isDate inSpan between dayNumber daysOfMonths newYear daysOfYears
+lines-known =
+    read (plain (date 29 2)) (named Julian 1900) refl (omega arith) (omega arith) refl refl
+    also refl
+    also read (plain (date 15 10)) (named Gregorian 1582) refl (omega arith) (omega arith) refl refl
+    also read (plain (date 14 10)) (named Gregorian 1582) refl (omega arith) (omega arith) refl refl
+    also read (plain (date 29 2)) (named Gregorian 1582) refl (omega arith) (omega arith) refl refl
+    also read (wrapped Morrow (wrapped Eve (plain (date 1 1)))) (named Julian 1) refl (tt, (tt, omega arith)) (omega arith) refl refl
+    also none
+
+-- Each row of the table holds, those of years by computation.
 pub known : All Holds table
-unfolding golden epact arabic stands luna limit march easter key firstWeekday firstOf between spellLine spellPhrase spellAnchor decimal GoodPhrase GoodAnchor lineDay phraseDay wrappersAct anchorOf anchorDay dayInYear served isDate within inSpan dayNumber daysOfMonths newYear daysOfYears
+unfolding golden epact arabic stands luna limit march easter key firstWeekday firstOf between dayNumber daysOfMonths newYear daysOfYears
 known =
     refl also refl also refl also refl
     also refl also refl also refl also refl also refl
@@ -97,10 +122,4 @@ known =
     also refl also refl also refl
     also refl also refl
     also refl also sundays Julian 1225 first also sundays Julian 1225 second also refl also refl
-    also fit refl (produced (record { phrase = plain (date 29 2); named = named Julian 1900 }) (record { phrase = omega arith; year = omega arith }) refl refl)
-    also refl
-    also fit refl (produced (record { phrase = plain (date 15 10); named = named Gregorian 1582 }) (record { phrase = omega arith; year = omega arith }) refl refl)
-    also fit refl (produced (record { phrase = plain (date 14 10); named = named Gregorian 1582 }) (record { phrase = omega arith; year = omega arith }) refl refl)
-    also fit refl (produced (record { phrase = plain (date 29 2); named = named Gregorian 1582 }) (record { phrase = omega arith; year = omega arith }) refl refl)
-    also fit refl (produced (record { phrase = wrapped Morrow (wrapped Eve (plain (date 1 1))); named = named Julian 1 }) (record { phrase = (tt, (tt, omega arith)); year = omega arith }) refl refl)
-    also none
+    also lines-known

@@ -1,13 +1,10 @@
 -- Feast words and dates, on which the wrappers act.
 use mathlib.Core.List.{List, _∷_, _++_}
 use Prim.Native.Nat.{ℕ, _≤_}
-use Rattle.calendar.specs.Date.{dayInYear}
-use Rattle.church.specs.Feast.{feastInYear}
+use Rattle.church.specs.Feast.{Rule, on, rule}
 use Rattle.words.specs.Numeral.{numeral}
 use Rattle.words.specs.Text.{point}
 use Rattle.words.specs.Word.{feastWord}
-use Rattle.calendar.specs.declared.span.DayAnswer.{DayAnswer}
-use Rattle.calendar.specs.declared.year.NamedYear.{NamedYear}
 
 -- "A phrase is a feast word, or a date": a feast by its number, a date by its day and month
 pub data Anchor : Type 0 where
@@ -24,7 +21,7 @@ unfoldable pub GoodAnchor : Anchor → Type 0
 GoodAnchor (feast f) = (1 ≤ f) × (f ≤ 48)
 GoodAnchor (date d m) = ((1 ≤ d) × (d ≤ 31)) × ((1 ≤ m) × (m ≤ 12))
 
--- "The feast or date is taken in the named year."
-unfoldable pub anchorDay : NamedYear → Anchor → DayAnswer
-anchorDay t (feast f) = feastInYear t f
-anchorDay t (date d m) = dayInYear t m d
+-- when it is kept: by the feast's rule, or on the date
+abbrev pub anchorRule : Anchor → Rule
+anchorRule (feast f) = rule f
+anchorRule (date d m) = on d m

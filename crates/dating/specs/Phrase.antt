@@ -1,9 +1,15 @@
 -- Phrases: wrappers before a feast word or date.
-use mathlib.Core.List.{List, _++_}
+use mathlib.Core.Bool.{Bool, _&&_}
+use mathlib.Core.List.{List, [], _∷_, _++_}
 use Prim.Native.Nat.{ℕ}
+use Rattle.calendar.specs.Refusal.{Test, _unless_, checked}
+use Rattle.calendar.specs.Span.{inSpan}
+use Rattle.church.specs.Feast.{servedFor, dateExists, ruleNumber}
 use Rattle.words.specs.Wrapper.{wrapperWords, GoodWrapper}
-use Rattle.dating.specs.Act.{acted}
-use Rattle.dating.specs.Anchor.{Anchor, spellAnchor, GoodAnchor, anchorDay}
+use Rattle.dating.specs.Act.{moved}
+use Rattle.dating.specs.Anchor.{Anchor, spellAnchor, GoodAnchor, anchorRule}
+use Rattle.calendar.specs.declared.refusal.Refusal.the-variants.{Year, Date, Span}
+use Rattle.calendar.specs.declared.span.DayAnswer.the-variants.{Day, NoDay}
 use Rattle.calendar.specs.declared.span.DayAnswer.{DayAnswer}
 use Rattle.calendar.specs.declared.style.Style.{Style}
 use Rattle.calendar.specs.declared.year.NamedYear.{NamedYear}
@@ -27,11 +33,32 @@ unfoldable pub anchorOf : Phrase → Anchor
 anchorOf (plain a) = a
 anchorOf (wrapped w p) = anchorOf p
 
--- the wrappers of a phrase on an answer: "each wrapper acts, the innermost first"
-unfoldable pub wrappersAct : Style → Phrase → DayAnswer → DayAnswer
-wrappersAct s (plain a) r = r
-wrappersAct s (wrapped w p) r = acted s w (wrappersAct s p r)
+-- the day that a phrase comes to from the day n of its feast or date: "each wrapper acts, the innermost first"
+unfoldable pub comesTo : Phrase → ℕ → ℕ
+comesTo (plain a) n = n
+comesTo (wrapped w p) n = moved w (comesTo p n)
 
--- "The feast or date is taken in the named year. Then each wrapper acts"
-unfoldable pub phraseDay : NamedYear → Phrase → DayAnswer
-phraseDay t p = wrappersAct (t .style) p (anchorDay t (anchorOf p))
+-- "Every day on the way must lie in the span."
+unfoldable pub staysIn : Style → Phrase → ℕ → Bool
+staysIn s (plain a) n = inSpan s n
+staysIn s (wrapped w p) n = staysIn s p n && inSpan s (comesTo (wrapped w p) n)
+
+-- a phrase in the named year t
+module _ (t : NamedYear) (p : Phrase) where
+  -- "The feast or date is taken in the named year.": its year is served, it is a date of that year, and its day number
+  abbrev pub yearServed : Bool
+  yearServed = servedFor (anchorRule (anchorOf p)) (t .style) (t .year)
+
+  abbrev pub dateThere : Bool
+  dateThere = dateExists (anchorRule (anchorOf p)) (t .style) (t .year)
+
+  abbrev pub startDay : ℕ
+  startDay = ruleNumber (anchorRule (anchorOf p)) (t .style) (t .year)
+
+  -- the tests of the phrase
+  abbrev pub phraseTests : List Test
+  phraseTests = Year unless yearServed ∷ Date unless dateThere ∷ Span unless staysIn (t .style) p startDay ∷ []
+
+  -- its day, refused by 4, 5 or 6
+  unfoldable pub phraseDay : DayAnswer
+  phraseDay = checked NoDay (Day (comesTo p startDay)) phraseTests

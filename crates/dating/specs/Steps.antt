@@ -1,23 +1,33 @@
 -- What the private functions of the reader and the writer answer. No public promise is stated by these.
+use mathlib.Core.Bool.{true}
 use mathlib.Core.List.{List, [], _∷_, _++_}
 use mathlib.Core.Path.{_≡_}
 use Prim.Native.Nat.{ℕ, _+_}
 use lib.ListN.{length}
 use lib.Seq.{sets}
 use Rattle.calendar.specs.Style.{styleLetter}
+use Rattle.church.specs.Feast.{ruleDay}
 use Rattle.words.specs.Told.{Grammar}
-use Rattle.dating.specs.Anchor.{Anchor, spellAnchor, GoodAnchor}
-use Rattle.dating.specs.Answer.{Reading, AnswerText}
-use Rattle.dating.specs.Line.{ending, GoodYear}
+use Rattle.dating.specs.Anchor.{Anchor, spellAnchor, GoodAnchor, anchorRule}
+use Rattle.dating.specs.Answer.{DatedText}
+use Rattle.dating.specs.Line.{Line, ending, GoodYear, spellLine, GoodLine, lineDay, lengthFits, IsDayOfLine}
 use Rattle.dating.specs.Phrase.{Phrase, spellPhrase, GoodPhrase}
 use Rattle.dating.specs.Writer.{IsDateText}
+use Rattle.calendar.specs.declared.span.DayAnswer.the-variants.{Day, NoDay}
+use Rattle.calendar.specs.declared.span.DayAnswer.{DayAnswer}
 use Rattle.calendar.specs.declared.style.Style.{Style}
 use Rattle.calendar.specs.declared.year.NamedYear.{NamedYear}
 use Rattle.dating.specs.declared.line.Ending.{Ending}
 use Rattle.dating.specs.declared.line.Ending.the-variants.{At}
+use Rattle.dating.specs.declared.line.Reading.the-variants.{Dated, Refused}
+use Rattle.dating.specs.declared.line.Reading.{Reading}
 
 abbrev pub anchors : Grammar
 anchors = record { Tree = Anchor; Good = GoodAnchor; spell = spellAnchor }
+
+-- the day of a feast word or date in the named year t
+abbrev pub anchorDay : NamedYear → Anchor → DayAnswer
+anchorDay t a = ruleDay t (anchorRule a)
 
 abbrev pub phrases : Grammar
 phrases = record { Tree = Phrase; Good = GoodPhrase; spell = spellPhrase }
@@ -37,6 +47,21 @@ endings = record { Tree = Ended; Good = λ x. GoodYear (x .named); spell = λ x.
 abbrev pub endAt : Ended → Ending
 endAt x = At (length (x .front)) (x .named)
 
+-- the line that the day n is read from, of the style y and with a phrase of k bytes
+pub record ReadFrom (s : List ℕ) (y : Style) (n k : ℕ) : Type 0 where
+  pub fits : lengthFits s ≡ true
+  pub line : Line
+  pub good : GoodLine line
+  pub spelled : spellLine line ≡ s
+  pub day : lineDay line ≡ Day n
+  pub style : line .named .style ≡ y
+  pub phrase : length (spellPhrase (line .phrase)) ≡ k
+
+-- r is the reading of the line s
+abbrev pub IsReading : List ℕ → Reading → Type 0
+IsReading s (Dated y n k) = ReadFrom s y n k
+IsReading s (Refused x) = IsDayOfLine s (NoDay x)
+
 -- the bytes w are put at the place i of a buffer, and r is the place behind them
 pub record Put (before : List ℕ) (i : ℕ) (w after : List ℕ) (r : ℕ) : Type 0 where
   pub behind : r ≡ i + length w
@@ -46,6 +71,6 @@ pub record Put (before : List ℕ) (i : ℕ) (w after : List ℕ) (r : ℕ) : Ty
 abbrev pub PutsDate : Style → ℕ → ℕ → (before after : List ℕ) → ℕ → Type 0
 PutsDate s n i before after r = (w : List ℕ) × (IsDateText s n w × Put before i w after r)
 
--- a text that tells the reading q is put at the place i of a buffer
-abbrev pub PutsReading : Reading → ℕ → (before after : List ℕ) → ℕ → Type 0
-PutsReading q i before after r = (t : List ℕ) × (AnswerText q t × Put before i t after r)
+-- the answer that tells the day n is put at the place i of a buffer
+abbrev pub PutsDated : Style → ℕ → ℕ → (before after : List ℕ) → ℕ → Type 0
+PutsDated s n i before after r = (t : List ℕ) × (DatedText s n t × Put before i t after r)

@@ -10,8 +10,7 @@ use words::word::feast_of_word;
 ghost use Rattle.calendar.specs.declared.refusal.Refusal.the-variants.{Form};
 ghost use Rattle.calendar.specs.declared.span.DayAnswer.the-variants.{NoDay};
 ghost use Rattle.words.specs.Told.{Told};
-ghost use Rattle.dating.specs.Anchor.{anchorDay};
-ghost use Rattle.dating.specs.Steps.{anchors};
+ghost use Rattle.dating.specs.Steps.{anchors, anchorDay};
 
 // The day of a feast word or date of the named year.
 pub(crate) fn anchor_in_year(anchor: &[u8], named: NamedYear) -> DayAnswer

@@ -1,13 +1,11 @@
 // The answer to a dating line, as one line of text.
-use crate::line::day_of_line;
-use crate::line::style_of_letter;
+use crate::line::Reading;
+use crate::line::reading_of_line;
 use crate::writer::put_day;
 use crate::writer::put_number;
 use calendar::refusal::Refusal;
 use calendar::refusal::refusal_number;
-use calendar::span::DayAnswer;
 use calendar::style::Style;
-use calendar::style::StyleAnswer;
 use calendar::weekday::weekday_in_style;
 use calendar::weekday::weekday_or_zero;
 ghost use mathlib.Core.Bool.{true};
@@ -15,13 +13,13 @@ ghost use mathlib.Core.Path.{_≡_};
 ghost use Prim.Native.Nat.{_+_, _≤_};
 ghost use lib.ListN.{length};
 ghost use Rattle.calendar.specs.Span.{inSpan};
-ghost use Rattle.dating.specs.Answer.{dated, refused, dayFields, PutsAnswer};
-ghost use Rattle.dating.specs.Steps.{Put, PutsReading};
+ghost use Rattle.dating.specs.Answer.{dayFields, refusedText, PutsAnswer};
+ghost use Rattle.dating.specs.Steps.{Put, PutsDated};
 
 // Puts the answer that is a refusal's number at a place, and answers the place behind it.
 fn put_refused(buffer: &mut [u8], at: usize, refusal: Refusal) -> usize
     requires { ⌜ at + 25 ≤ length (now buffer) ⌝ }
-    ensures { λ r. ⌜ PutsReading (refused refusal) at (now (buffer .entry)) (now (buffer .exit)) r ⌝ }
+    ensures { λ r. ⌜ Put (now (buffer .entry)) at (refusedText refusal) (now (buffer .exit)) r ⌝ }
 {
     put_number(buffer, at, refusal_number(refusal) as u64, b'\n')
 }
@@ -40,7 +38,7 @@ fn put_fields(buffer: &mut [u8], at: usize, style: Style, day: u64) -> usize
 // Puts the answer that tells a day of the span at a place, and answers the place behind it.
 fn put_dated(buffer: &mut [u8], at: usize, style: Style, day: u64) -> usize
     requires { ⌜ (at + 25 ≤ length (now buffer)) × (inSpan style day ≡ true) ⌝ }
-    ensures { λ r. ⌜ PutsReading (dated style day) at (now (buffer .entry)) (now (buffer .exit)) r ⌝ }
+    ensures { λ r. ⌜ PutsDated style day at (now (buffer .entry)) (now (buffer .exit)) r ⌝ }
 {
     let date_at = put_fields(buffer, at, style, day);
     let end = put_day(buffer, date_at, style, day);
@@ -59,11 +57,12 @@ pub fn put_answer(line: &[u8], buffer: &mut [u8], at: usize) -> usize
     if at > buffer.len() - 25 {
         return 0;
     }
-    match day_of_line(line) {
-        DayAnswer::Day(day) => match style_of_letter(line[line.len() - 1]) {
-            StyleAnswer::Known(style) => put_dated(buffer, at, style, day as u64) - at,
-            StyleAnswer::NoStyle(_) => 0,
-        },
-        DayAnswer::NoDay(refusal) => put_refused(buffer, at, refusal) - at,
+    match reading_of_line(line) {
+        Reading::Dated {
+            style,
+            day,
+            phrase: _,
+        } => put_dated(buffer, at, style, day as u64) - at,
+        Reading::Refused(refusal) => put_refused(buffer, at, refusal) - at,
     }
 }

@@ -12,17 +12,27 @@ ghost use Rattle.calendar.specs.declared.refusal.Refusal.the-variants.{Form};
 ghost use Rattle.calendar.specs.declared.style.StyleAnswer.the-variants.{Known, NoStyle};
 ghost use Rattle.words.specs.Told.{Told};
 ghost use Rattle.dating.specs.Line.{IsDayOfLine};
-ghost use Rattle.dating.specs.Steps.{letters, endings, endAt};
+ghost use Rattle.dating.specs.Steps.{letters, endings, endAt, IsReading};
 ghost use Rattle.dating.specs.declared.line.Ending.the-variants.{NoEnding};
 
 // The length of a line's phrase, and the year with its style that stand behind it, or none.
-pub(crate) enum Ending {
+enum Ending {
     At(usize, NamedYear),
     NoEnding,
 }
 
+// What a line is read as: its style, its day and the length of its phrase; or why it is refused.
+pub(crate) enum Reading {
+    Dated {
+        style: Style,
+        day: u32,
+        phrase: usize,
+    },
+    Refused(Refusal),
+}
+
 // The style whose letter a byte is.
-pub(crate) fn style_of_letter(letter: u8) -> StyleAnswer
+fn style_of_letter(letter: u8) -> StyleAnswer
     ensures { λ r. ⌜ Told letters Known (NoStyle Form) (letter ∷ []) r ⌝ }
 {
     if letter == b'J' {
@@ -35,7 +45,7 @@ pub(crate) fn style_of_letter(letter: u8) -> StyleAnswer
 }
 
 // What stands behind the phrase of a line.
-pub(crate) fn ending_of(line: &[u8]) -> Ending
+fn ending_of(line: &[u8]) -> Ending
     ensures { λ r. ⌜ Told endings endAt NoEnding (now (line .entry)) r ⌝ }
 {
     let length = line.len();
@@ -61,18 +71,36 @@ pub(crate) fn ending_of(line: &[u8]) -> Ending
     Ending::At(start - 1, NamedYear { style, year })
 }
 
+// The reading of a dating line.
+pub(crate) fn reading_of_line(line: &[u8]) -> Reading
+    ensures { λ r. ⌜ IsReading (now (line .entry)) r ⌝ }
+{
+    if line.len() == 0 {
+        return Reading::Refused(Refusal::Length);
+    }
+    if line.len() > 120 {
+        return Reading::Refused(Refusal::Length);
+    }
+    let Ending::At(phrase, named) = ending_of(line) else {
+        return Reading::Refused(Refusal::Form);
+    };
+    let style = named.style;
+    match phrase_in_year(&line[..phrase], named) {
+        DayAnswer::Day(day) => Reading::Dated { style, day, phrase },
+        DayAnswer::NoDay(refusal) => Reading::Refused(refusal),
+    }
+}
+
 // The day of a dating line: refused by 2, 3, 4, 5 or 6.
 pub fn day_of_line(line: &[u8]) -> DayAnswer
     ensures { λ r. ⌜ IsDayOfLine (now (line .entry)) r ⌝ }
 {
-    if line.len() == 0 {
-        return DayAnswer::NoDay(Refusal::Length);
+    match reading_of_line(line) {
+        Reading::Dated {
+            style: _,
+            day,
+            phrase: _,
+        } => DayAnswer::Day(day),
+        Reading::Refused(refusal) => DayAnswer::NoDay(refusal),
     }
-    if line.len() > 120 {
-        return DayAnswer::NoDay(Refusal::Length);
-    }
-    let Ending::At(length, named) = ending_of(line) else {
-        return DayAnswer::NoDay(Refusal::Form);
-    };
-    phrase_in_year(&line[..length], named)
 }

@@ -11,6 +11,7 @@ use mir.Syntax.{w32}
 use mir.Val.{SFits}
 use borrow.Author.Tests.{ltb-true}
 use Rattle.calendar.specs.Distance.{distance, distanceOfDays}
+use Rattle.calendar.specs.Span.{latest}
 use Rattle.calendar.specs.declared.distance.DistanceAnswer.the-variants.{Days}
 use Rattle.calendar.specs.declared.span.DayAnswer.the-variants.{Day, NoDay}
 use Rattle.calendar.specs.declared.span.DayAnswer.{DayAnswer}
@@ -29,7 +30,8 @@ mag-small (pos n) = le-refl n
 mag-small (negsuc n) = omega arith
 
 -- a distance has two days
-pub both-days : (p q : DayAnswer) (z : ℤ) → distanceOfDays p q ≡ Days z → (a : ℕ) × (b : ℕ) × (p ≡ Day a) × (q ≡ Day b) × (distance a b ≡ z)
+pub both-days : (p q : DayAnswer) (z : ℤ) → distanceOfDays p q ≡ Days z
+    → (a : ℕ) × (b : ℕ) × (p ≡ Day a) × (q ≡ Day b) × (distance a b ≡ z)
 both-days (Day a) (Day b) z e = (a, b, refl, refl, cc)
 both-days (Day a) (NoDay x) z e = let o : _≡_ {A = ℕ} 0 1 = cc in absurd (omega arith)
 both-days (NoDay x) q z e = let o : _≡_ {A = ℕ} 0 1 = cc in absurd (omega arith)
@@ -45,6 +47,6 @@ pub same-day-zero : (n : ℕ) → distanceOfDays (Day n) (Day n) ≡ Days (pos 0
 same-day-zero n = ap Days (+ℤ-invr (pos n))
 
 -- a distance of days fits 32 bits
-pub distance-fits : (a b : ℕ) → a ≤ 5373557 → b ≤ 5373557 → SFits w32 (distance a b)
+pub distance-fits : (a b : ℕ) → a ≤ latest → b ≤ latest → SFits w32 (distance a b)
 distance-fits a b h g =
-    record { sfits = omega (arith, mag-small (distance a b), distance-size a b 5373557 (omega arith) (omega arith)) }
+    record { sfits = omega (arith, mag-small (distance a b), distance-size a b latest (omega arith) (omega arith)) }

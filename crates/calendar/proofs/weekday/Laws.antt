@@ -45,7 +45,8 @@ pub before-closed : (w n : ℕ) → 1 ≤ w → w ≤ 7 → (n + 7 - w) % 7 + 1 
 before-closed w n low high h = earlier w n (n - ((n + 7 - w) % 7 + 1)) (omega arith) (omega arith) (omega arith)
 
 -- the first weekday later or earlier lies within a week, and is that weekday
-pub is-later : (w n : ℕ) → 1 ≤ w → w ≤ 7 → (n < firstWeekday After w n) × (firstWeekday After w n ≤ n + 7) × (weekday (firstWeekday After w n) ≡ w)
+pub is-later : (w n : ℕ) → 1 ≤ w → w ≤ 7
+    → (n < firstWeekday After w n) × (firstWeekday After w n ≤ n + 7) × (weekday (firstWeekday After w n) ≡ w)
 is-later w n low high = rw (after-closed w n low high) (omega arith)
 
 pub is-earlier : (w n : ℕ) → 1 ≤ w → w ≤ 7 → 7 ≤ n

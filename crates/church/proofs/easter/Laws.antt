@@ -1,35 +1,33 @@
 -- 21 March, the limit and Easter.
-use mathlib.Core.Bool.{Bool, true, false, not, cond, and-true, and-false, and-eq-true-iff}
+use mathlib.Core.Bool.{Bool, true, false, _&&_, not, cond, and-true, and-false, and-eq-true-iff}
+use mathlib.Core.Logic.{_↔_}
 use mathlib.Core.Path.{_≡_, refl}
 use Prim.Native.Nat.{ℕ, suc, _+_, _-_, _≤_, _<_}
+use native.Mathlib.Nat.{add-zero}
 use native.Mathlib.Omega.{arith}
-use borrow.Author.Tests.{eqb-false, not-true}
+use lib.Dec.{T, leb, leb→le}
+use lib.IntN.{ℤ, pos, negsuc}
+use borrow.Author.Tests.{eqb-false, ne-eqb, not-true}
 use Rattle.calendar.proofs.date.Laws.{answered}
 use Rattle.calendar.proofs.range.Laws.{in-range}
-use Rattle.calendar.proofs.span.Laws.{span-small, served-range, span-end}
+use Rattle.calendar.proofs.span.Laws.{span-small, served-range, served-small, span-start, in-span-from}
 use Rattle.calendar.proofs.weekday.Laws.{is-later}
-use Rattle.calendar.proofs.year.Laws.{new-year-closed, year-up, new-year-rises}
+use Rattle.calendar.proofs.year.Laws.{year-up}
 use Rattle.church.proofs.column.Laws.{luna-range}
 use Rattle.calendar.specs.Date.{daysOfMonths, isDate, dayNumber, dayInYear}
 use Rattle.calendar.specs.Range.{between}
-use Rattle.calendar.specs.Refusal.{unless}
-use Rattle.calendar.specs.Span.{firstDay, lastDay, inSpan}
+use Rattle.calendar.specs.Refusal.{checked}
+use Rattle.calendar.specs.Span.{firstDay, earliest, latest, inSpan}
 use Rattle.calendar.specs.Weekday.{weekday, sunday, firstWeekday}
 use Rattle.calendar.specs.Year.{named, leap, newYear, served}
-use Rattle.church.specs.Easter.{limit, march, easter, reformYear, hasEaster}
-use Rattle.calendar.specs.declared.refusal.Refusal.the-variants.{Year}
+use Rattle.church.specs.Easter.{limit, march, easter, reformYear, hasEaster, easterTests}
+use Rattle.church.specs.Feast.{+_, daysFrom}
 use Rattle.calendar.specs.declared.span.DayAnswer.the-variants.{Day, NoDay}
 use Rattle.calendar.specs.declared.style.Style.the-variants.{Julian, Gregorian}
 use Rattle.calendar.specs.declared.style.Style.{Style}
 use Rattle.calendar.specs.declared.weekday.Side.the-variants.{After}
 
--- hasEaster, as facts and back
-easter-years : (s : Style) (y : ℕ) → hasEaster s y ≡ true → (served s y ≡ true) × (reformYear s y ≡ false)
-unfolding hasEaster
-easter-years s y h =
-    let both = and-eq-true-iff (served s y) (not (reformYear s y)) .0 h in
-    (both .0, not-true (reformYear s y) (both .1))
-
+-- which years have an Easter
 has-easter : (s : Style) (y : ℕ) → served s y ≡ true → reformYear s y ≡ false → hasEaster s y ≡ true
 unfolding hasEaster
 has-easter s y r n = rw (r, n)
@@ -39,32 +37,38 @@ unfolding hasEaster
 no-easter s y n = rw (n, and-false)
 
 pub easter-served : (s : Style) (y : ℕ) → hasEaster s y ≡ true → served s y ≡ true
-easter-served s y h = easter-years s y h .0
+unfolding hasEaster
+easter-served s y h = and-eq-true-iff (served s y) (not (reformYear s y)) .0 h .0
 
--- the first year that has an Easter begins in the span
-firstEaster : Style → ℕ
+abbrev pub firstEaster : Style → ℕ
 firstEaster Julian = 1
 firstEaster Gregorian = 1583
 
-easter-from : (s : Style) (y : ℕ) → served s y ≡ true → reformYear s y ≡ false → (1 ≤ firstEaster s) × (firstEaster s ≤ y) × (y ≤ 9999)
-unfolding firstEaster
-easter-from Julian y r n = omega (arith, served-range Julian y r)
-easter-from Gregorian y r n = omega (arith, served-range Gregorian y r, eqb-false y 1582 n)
+-- The years that have a sheet and an Easter are those up to 9999, from 1 on in J and from 1583 on in G.
+pub easter-years : (s : Style) (y : ℕ) → (hasEaster s y ≡ true) ↔ ((firstEaster s ≤ y) × (y ≤ 9999))
+unfolding hasEaster served
+easter-years s y =
+    let parts = and-eq-true-iff (served s y) (not (reformYear s y)) .0 in
+    (λ h. from s (parts h .0) (not-true (reformYear s y) (parts h .1)), λ h. to s (h .0) (h .1))
+  where
+    from : (s : Style) → served s y ≡ true → reformYear s y ≡ false → (firstEaster s ≤ y) × (y ≤ 9999)
+    from Julian r n = served-range Julian y r
+    from Gregorian r n = omega (arith, served-range Gregorian y r, eqb-false y 1582 n)
 
-first-in-span : (s : Style) → firstDay s ≤ newYear s (firstEaster s)
-unfolding firstEaster
-first-in-span Julian = omega (arith, new-year-closed Julian 0)
-first-in-span Gregorian = omega (arith, new-year-closed Gregorian 1582)
+    to : (s : Style) → firstEaster s ≤ y → y ≤ 9999 → served s y && not (reformYear s y) ≡ true
+    to Julian low high = rw (in-range 1 y 9999 low high)
+    to Gregorian low high = rw (in-range 1582 y 9999 (omega arith) high, ne-eqb y 1582 (λ e. omega arith))
+
+-- the first of them begins in the span
+first-in-span : (s : Style) → firstDay s ≤ newYear s (firstEaster s) + 0
+first-in-span Julian = omega (arith, span-start Julian)
+first-in-span Gregorian = omega (arith, span-start Gregorian, year-up Gregorian 1582 (omega arith))
 
 -- so every day of a year that has an Easter lies in the span
 pub year-in-span : (s : Style) (y n : ℕ) → hasEaster s y ≡ true → newYear s y ≤ n → n < newYear s (suc y) → inSpan s n ≡ true
-unfolding inSpan
 year-in-span s y n h from to =
-    let is = easter-years s y h in
-    let e = easter-from s y (is .0) (is .1) in
-    in-range (firstDay s) n (lastDay s)
-    (omega (arith, first-in-span s, new-year-rises s (firstEaster s) y (e .1)))
-    (omega (arith, span-end s, new-year-rises s (suc y) 10000 (omega arith)))
+    let e = easter-years s y .0 h in
+    in-span-from s (firstEaster s) y 0 n (e .0) (e .1) (first-in-span s) (omega arith) to
 
 at-least : (b : Bool) → 365 ≤ cond b 366 365
 at-least true = omega arith
@@ -72,9 +76,7 @@ at-least false = omega arith
 
 pub year-long : (s : Style) (y : ℕ) → hasEaster s y ≡ true → newYear s y + 365 ≤ newYear s (suc y)
 year-long s y h =
-    let is = easter-years s y h in
-    let e = easter-from s y (is .0) (is .1) in
-    omega (arith, at-least (leap s y), year-up s y (omega arith))
+    omega (arith, at-least (leap s y), year-up s y (served-small s y (easter-served s y h) .0))
 
 -- 21 March is the day 79 of a common year, the first being 0
 pub march-21 : (b : Bool) → daysOfMonths b 2 ≡ 59 + cond b 1 0
@@ -97,20 +99,22 @@ near-easter s y n h from to =
 
 -- 21 March is answered exactly where Easter is, and else refused by 4
 pub equinox-answer : (s : Style) (y : ℕ) → reformYear s y ≡ false
-    → dayInYear (named s y) 3 21 ≡ unless (hasEaster s y) (NoDay Year) (Day (march s y 21))
+    → dayInYear (named s y) 3 21 ≡ checked NoDay (Day (march s y 21)) (easterTests (named s y))
 unfolding hasEaster isDate between march
 equinox-answer s y n =
     rw (n, and-true) (answered s y 3 21 refl (λ r. near-easter s y (march s y 21) (has-easter s y r n) (omega arith) (omega arith)))
 
-equinox-small : (s : Style) (y : ℕ) → hasEaster s y ≡ true → (1721424 ≤ march s y 21) × (march s y 21 ≤ 5373557)
+equinox-small : (s : Style) (y : ℕ) → hasEaster s y ≡ true → (earliest ≤ march s y 21) × (march s y 21 ≤ latest)
 equinox-small s y h = span-small s (march s y 21) (near-easter s y (march s y 21) h (omega arith) (omega arith))
 
+-- The limit lies from 21 to 49.
 pub limit-range : (s : Style) (y : ℕ) → (21 ≤ limit s y) × (limit s y ≤ 49)
 unfolding limit
 limit-range s y = omega (arith, luna-range s y)
 
 -- what the search for Easter asks of the day n of 21 March and of the limit
-pub easter-asked : (s : Style) (y n : ℕ) → hasEaster s y ≡ true → march s y 21 ≡ n → (1721424 ≤ n) × (n ≤ 5373557) × (21 ≤ limit s y) × (limit s y ≤ 49)
+pub easter-asked : (s : Style) (y n : ℕ) → hasEaster s y ≡ true → march s y 21 ≡ n
+    → (earliest ≤ n) × (n ≤ latest) × (21 ≤ limit s y) × (limit s y ≤ 49)
 easter-asked s y n h e =
     let m = equinox-small s y h in
     let l = limit-range s y in
@@ -137,23 +141,27 @@ easter-facts s y =
     let m = march-from s y (limit s y) (r .0) in
     record { later = f .0; week = f .1; falls = f .2; key-low = omega arith; key-high = omega arith }
 
+-- days from 63 before Easter to 60 after it
+abbrev pub near : ℤ → Bool
+near (pos k) = leb k 60
+near (negsuc k) = leb k 62
+
+pub near-days : (z : ℤ) (n : ℕ) → T (near z) → (n ≤ daysFrom z n + 63) × (daysFrom z n ≤ n + 60)
+near-days (pos k) n h = omega (arith, leb→le k 60 h)
+near-days (negsuc k) n h = omega (arith, leb→le k 62 h)
+
+-- lie in the span
+pub hung-in-span : (s : Style) (y : ℕ) (z : ℤ) → hasEaster s y ≡ true → T (near z) → inSpan s (daysFrom z (easter s y)) ≡ true
+hung-in-span s y z h small =
+    let f = easter-facts s y in
+    let d = near-days z (easter s y) small in
+    near-easter s y (daysFrom z (easter s y)) h (omega (arith, f .key-low)) (omega (arith, f .key-high))
+
+-- In a year that has a sheet Easter lies in the span.
 pub easter-in-span : (s : Style) (y : ℕ) → hasEaster s y ≡ true → inSpan s (easter s y) ≡ true
-easter-in-span s y h =
-    let f = easter-facts s y in
-    near-easter s y (easter s y) h (omega (arith, f .key-low)) (omega (arith, f .key-high))
+easter-in-span s y h = rw add-zero at (hung-in-span s y (+ 0) h tt)
 
--- the days up to 63 before Easter and up to 60 after it lie in the span
-pub before-easter : (s : Style) (y k : ℕ) → hasEaster s y ≡ true → k ≤ 63 → inSpan s (easter s y - k) ≡ true
-before-easter s y k h small =
-    let f = easter-facts s y in
-    near-easter s y (easter s y - k) h (omega (arith, f .key-low)) (omega (arith, f .key-high))
-
-pub after-easter : (s : Style) (y k : ℕ) → hasEaster s y ≡ true → k ≤ 60 → inSpan s (easter s y + k) ≡ true
-after-easter s y k h small =
-    let f = easter-facts s y in
-    near-easter s y (easter s y + k) h (omega (arith, f .key-low)) (omega (arith, f .key-high))
-
-pub easter-small : (s : Style) (y : ℕ) → hasEaster s y ≡ true → (1721424 ≤ easter s y) × (easter s y ≤ 5373557)
+pub easter-small : (s : Style) (y : ℕ) → hasEaster s y ≡ true → (earliest ≤ easter s y) × (easter s y ≤ latest)
 easter-small s y h = span-small s (easter s y) (easter-in-span s y h)
 
 -- Easter as the code finds it

@@ -38,7 +38,8 @@ early-month m true b c e f h = omega (arith, eqb-true)
 early-month m false b c e f h = omega (arith, eqb-true m 2 (f ∙ and-eq-true-iff b c .0 h .0))
 
 -- days are counted as in a common year, but for a leap day before them
-counted : (p : Part) (b : Bool) (m d : ℕ) → 1 ≤ m → m ≤ 12 → inPart p m d ≡ true → daysOfMonths b (pred m) ≡ daysOfMonths false (pred m) + before p b
+counted : (p : Part) (b : Bool) (m d : ℕ) → 1 ≤ m → m ≤ 12 → inPart p m d ≡ true
+    → daysOfMonths b (pred m) ≡ daysOfMonths false (pred m) + before p b
 unfolding before
 counted first b m d low high h =
     let early = early-month m _ _ _ refl refl h in

@@ -1,15 +1,12 @@
 -- Two sheets that a contract allows are equal.
-use mathlib.Core.Bool.{true≢false}
 use mathlib.Core.Path.{_≡_, sym, _∙_, ap}
 use Prim.Native.Nat.{ℕ}
+use Rattle.calendar.proofs.refusal.Laws.{both-checked}
 use Rattle.church.proofs.letter.Laws.{one-letter}
-use Rattle.calendar.specs.Style.{styleOf, inStyle}
-use Rattle.calendar.specs.Year.{named}
+use Rattle.church.specs.Easter.{easterTests}
 use Rattle.church.specs.Letter.{first, second}
-use Rattle.church.specs.Sheet.{IsSheet, IsSheetInYear, IsSheetOfYear}
+use Rattle.church.specs.Sheet.{IsSheet, IsSheetOf, IsSheetInYear}
 use Rattle.calendar.specs.declared.style.Style.{Style}
-use Rattle.calendar.specs.declared.style.StyleAnswer.the-variants.{Known, NoStyle}
-use Rattle.calendar.specs.declared.style.StyleAnswer.{StyleAnswer}
 use Rattle.calendar.specs.declared.year.NamedYear.{NamedYear}
 use Rattle.church.specs.declared.sheet.SheetAnswer.the-variants.{Sheet, NoSheet}
 use Rattle.church.specs.declared.sheet.SheetAnswer.{SheetAnswer}
@@ -32,16 +29,11 @@ one-sheet s y r r′ h h′ =
       easter = (h .its-easter ∙ sym (h′ .its-easter)) i;
     }
 
-pub one-in-year : (t : NamedYear) (r r′ : SheetAnswer) → IsSheetInYear t r → IsSheetInYear t r′ → r ≡ r′
-one-in-year t (Sheet r) (Sheet r′) h h′ = ap Sheet (one-sheet (t .style) (t .year) r r′ (h .1) (h′ .1))
-one-in-year t (Sheet r) (NoSheet x) h h′ = absurd (true≢false (sym (h .0) ∙ h′ .0))
-one-in-year t (NoSheet x) (Sheet r) h h′ = absurd (true≢false (sym (h′ .0) ∙ h .0))
-one-in-year t (NoSheet x) (NoSheet x′) h h′ = ap NoSheet (h .1 ∙ sym (h′ .1))
+one-of : (t : NamedYear) (a b : SheetAnswer) → IsSheetOf t a → IsSheetOf t b → a ≡ b
+one-of t (Sheet r) (Sheet r′) h h′ = ap Sheet (one-sheet (t .style) (t .year) r r′ h h′)
+one-of t (Sheet r) (NoSheet x) h h′ = absurd h′
+one-of t (NoSheet x) b h h′ = absurd h
 
-one-by-number : (a : StyleAnswer) (y : ℕ) (r r′ : SheetAnswer) → inStyle (λ x. r ≡ NoSheet x) (λ s. IsSheetInYear (named s y) r) a
-    → inStyle (λ x. r′ ≡ NoSheet x) (λ s. IsSheetInYear (named s y) r′) a → r ≡ r′
-one-by-number (Known s) y r r′ h h′ = one-in-year (named s y) r r′ h h′
-one-by-number (NoStyle x) y r r′ h h′ = h ∙ sym h′
-
-pub one-answer : (k y : ℕ) (r r′ : SheetAnswer) → IsSheetOfYear k y r → IsSheetOfYear k y r′ → r ≡ r′
-one-answer k y r r′ h h′ = one-by-number (styleOf k) y r r′ h h′
+-- Any two answers that the year sheet may give are equal, in a style.
+pub one-answer-in-year : (t : NamedYear) (r r′ : SheetAnswer) → IsSheetInYear t r → IsSheetInYear t r′ → r ≡ r′
+one-answer-in-year t r r′ h h′ = both-checked (easterTests t) (λ x (p : r ≡ NoSheet x) (q : r′ ≡ NoSheet x). p ∙ sym q) (one-of t r r′) h h′

@@ -5,16 +5,23 @@ use mathlib.Core.Path.{_≡_, refl, sym, _∙_, ap, ap₂}
 use Prim.Native.Nat.{ℕ, _-_, _<_, _≤_}
 use native.Mathlib.Omega.{arith}
 use lib.ListN.{length, take, drop, length-append}
+use Rattle.calendar.proofs.range.Laws.{in-range}
 use Rattle.words.proofs.Told.{OneReading, number-told, number-untold}
 use Rattle.words.proofs.numeral.Laws.{one-number, numeral-lacks, numeral-length}
 use Rattle.words.proofs.text.Laws.{no-false, has-append, has-here, one-cut, cut, known-cut}
 use Rattle.words.proofs.word.Laws.{feast-length, feast-lacks-space, feast-lacks-point, one-feast}
+use Rattle.calendar.specs.Date.{dayInYear}
+use Rattle.church.specs.Feast.{feastInYear}
 use Rattle.words.specs.Numeral.{numeral, numerals}
 use Rattle.words.specs.Text.{space, point, has, BehindLast}
 use Rattle.words.specs.Told.{Told, produced, unproduced}
 use Rattle.words.specs.Word.{feastWord, feastWords}
 use Rattle.dating.specs.Anchor.{Anchor, feast, date, spellAnchor, GoodAnchor}
-use Rattle.dating.specs.Steps.{anchors}
+use Rattle.dating.specs.Steps.{anchors, anchorDay}
+use Rattle.calendar.specs.declared.refusal.Refusal.the-variants.{Form}
+use Rattle.calendar.specs.declared.span.DayAnswer.the-variants.{NoDay}
+use Rattle.calendar.specs.declared.span.DayAnswer.{DayAnswer}
+use Rattle.calendar.specs.declared.year.NamedYear.{NamedYear}
 
 -- ---- what stands in neither
 pub lacks-space : (a : Anchor) → GoodAnchor a → has space (spellAnchor a) ≡ false
@@ -50,16 +57,19 @@ one-anchor (date d m) (date d′ m′) g g′ e =
     (one-number m m′ (g .1 .0) (omega (arith, g)) (g′ .1 .0) (omega (arith, g′)) (k .1))
 
 -- ---- what a feast word or date tells
-module _ {R : Type 0} (meaning : Anchor → R) (other : R) (s : List ℕ) (f : ℕ) (told : Told feastWords (λ n. n) 0 s f) where
-  pub feast-told : 0 < f → Told anchors meaning other s (meaning (feast f))
-  unfolding spellAnchor GoodAnchor
+module _ (t : NamedYear) (s : List ℕ) (f : ℕ) (told : Told feastWords (λ n. n) 0 s f) where
+  abbrev pub Tells : DayAnswer → Type 0
+  Tells r = Told anchors (anchorDay t) (NoDay Form) s r
+
+  pub feast-told : 0 < f → Tells (feastInYear t f)
+  unfolding spellAnchor GoodAnchor feastInYear
   feast-told h =
-      let t = number-told f told h in
-      produced (feast f) (t .0) (t .1) refl
+      let n = number-told f told h in
+      produced (feast f) (n .0) (n .1) (rw (in-range 1 f 48 (n .0 .0) (n .0 .1)))
 
   module _ (zero : f ≡ 0) where
     -- bytes that no date is spelled with
-    no-anchor : ((d m : ℕ) → (1 ≤ d) × (d ≤ 31) → (1 ≤ m) × (m ≤ 12) → numeral d ++ point ∷ numeral m ≡ s → ⊥) → Told anchors meaning other s other
+    no-anchor : ((d m : ℕ) → (1 ≤ d) × (d ≤ 31) → (1 ≤ m) × (m ≤ 12) → numeral d ++ point ∷ numeral m ≡ s → ⊥) → Tells (NoDay Form)
     unfolding spellAnchor GoodAnchor
     no-anchor none = unproduced (λ a g e. neither a g e) refl
       where
@@ -68,21 +78,22 @@ module _ {R : Type 0} (meaning : Anchor → R) (other : R) (s : List ℕ) (f : �
         neither (date d m) g e = none d m (g .0) (g .1) e
 
     module _ (i : ℕ) (b : BehindLast point s i) where
-      date-cut : (d m : ℕ) → (1 ≤ m) × (m ≤ 12) → numeral d ++ point ∷ numeral m ≡ s → (0 < i) × (numeral d ≡ take (i - 1) s) × (numeral m ≡ drop i s)
+      date-cut : (d m : ℕ) → (1 ≤ m) × (m ≤ 12) → numeral d ++ point ∷ numeral m ≡ s
+          → (0 < i) × (numeral d ≡ take (i - 1) s) × (numeral m ≡ drop i s)
       date-cut d m gm e = known-cut point s i b (numeral d) (numeral m) (numeral-lacks point m (omega arith) (gm .0) (omega (arith, gm))) e
 
-      pub no-point : i ≡ 0 → Told anchors meaning other s other
+      pub no-point : i ≡ 0 → Tells (NoDay Form)
       no-point z = no-anchor (λ d m gd gm e. let k = date-cut d m gm e in omega arith)
 
-      pub no-day : (d : ℕ) → Told (numerals 31) (λ n. n) 0 (take (i - 1) s) d → d ≡ 0 → Told anchors meaning other s other
+      pub no-day : (d : ℕ) → Told (numerals 31) (λ n. n) 0 (take (i - 1) s) d → d ≡ 0 → Tells (NoDay Form)
       no-day d t z = no-anchor (λ k m gd gm e. number-untold d t z k (gd .0) (gd .1) (date-cut k m gm e .1))
 
-      pub no-month : (m : ℕ) → Told (numerals 12) (λ n. n) 0 (drop i s) m → m ≡ 0 → Told anchors meaning other s other
+      pub no-month : (m : ℕ) → Told (numerals 12) (λ n. n) 0 (drop i s) m → m ≡ 0 → Tells (NoDay Form)
       no-month m t z = no-anchor (λ d k gd gm e. number-untold m t z k (gm .0) (gm .1) (date-cut d k gm e .2))
 
-      pub date-told : (d m : ℕ) → 0 < i → Told (numerals 31) (λ n. n) 0 (take (i - 1) s) d → 0 < d → Told (numerals 12) (λ n. n) 0 (drop i s) m → 0 < m
-          → Told anchors meaning other s (meaning (date d m))
-      unfolding spellAnchor GoodAnchor
+      pub date-told : (d m : ℕ) → 0 < i → Told (numerals 31) (λ n. n) 0 (take (i - 1) s) d → 0 < d
+          → Told (numerals 12) (λ n. n) 0 (drop i s) m → 0 < m → Tells (dayInYear t m d)
+      unfolding spellAnchor GoodAnchor dayInYear
       date-told d m low td hd tm hm =
           let nd = number-told d td hd in
           let nm = number-told m tm hm in

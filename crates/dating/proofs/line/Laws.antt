@@ -1,5 +1,5 @@
 -- Endings and lines: each has one reading, and a line tells what its phrase tells in the year that its ending names.
-use mathlib.Core.Bool.{false}
+use mathlib.Core.Bool.{true, false}
 use mathlib.Core.List.{List, [], _∷_, _++_, append-assoc}
 use mathlib.Core.Path.{_≡_, refl, sym, _∙_, ap}
 use Prim.Native.Nat.{ℕ, _+_, _-_, _<_, _≤_}
@@ -8,33 +8,38 @@ use lib.ListN.{length, take, drop, getD, length-append}
 use lib.Seq.{length-take-le, take-append-seam, getD-append-seam, getD-append-add}
 use borrow.Author.Tests.{le-leb, lt-leb}
 use Rattle.calendar.proofs.range.Laws.{in-range}
-use Rattle.words.proofs.Told.{OneReading, one-told, told-map, number-told, number-untold}
+use Rattle.calendar.proofs.refusal.Laws.{no-day}
+use Rattle.words.proofs.Told.{one-told, told-map, number-told, number-untold}
 use Rattle.words.proofs.numeral.Laws.{one-number, numeral-lacks, numeral-length}
 use Rattle.words.proofs.text.Laws.{no-false, one-cut, cut, known-cut, last-two}
 use Rattle.dating.proofs.anchor.Laws.{three-bytes}
-use Rattle.dating.proofs.phrase.Laws.{one-phrase}
+use Rattle.dating.proofs.phrase.Laws.{one-phrase, phrase-in-span}
 use Rattle.calendar.specs.Range.{between}
+use Rattle.calendar.specs.Span.{inSpan}
 use Rattle.calendar.specs.Style.{styleLetter}
 use Rattle.words.specs.Numeral.{numeral, numerals}
 use Rattle.words.specs.Text.{space, has, BehindLast}
 use Rattle.words.specs.Told.{Told, produced, unproduced}
 use Rattle.words.specs.Wrapper.{wrapperWords}
-use Rattle.dating.specs.Line.{Line, ending, GoodYear, spellLine, GoodLine, lines, lineDay, LineTold, unfit, fit, IsDayOfLine}
+use Rattle.dating.specs.Line.{Line, ending, GoodYear, spellLine, GoodLine, lines, lineDay, LineTold, unfit, fit, lengthFits, IsDayOfLine}
 use Rattle.dating.specs.Phrase.{Phrase, plain, wrapped, spellPhrase, GoodPhrase, phraseDay}
-use Rattle.dating.specs.Steps.{phrases, letters, Ended, endings, endAt}
-use Rattle.calendar.specs.declared.refusal.Refusal.{Refusal}
+use Rattle.dating.specs.Steps.{phrases, letters, Ended, endings, endAt, ReadFrom, IsReading}
 use Rattle.calendar.specs.declared.refusal.Refusal.the-variants.{Length, Form}
+use Rattle.calendar.specs.declared.refusal.Refusal.{Refusal}
+use Rattle.calendar.specs.declared.span.DayAnswer.the-variants.{Day, NoDay}
 use Rattle.calendar.specs.declared.span.DayAnswer.{DayAnswer}
-use Rattle.calendar.specs.declared.span.DayAnswer.the-variants.{NoDay}
-use Rattle.calendar.specs.declared.style.Style.{Style}
 use Rattle.calendar.specs.declared.style.Style.the-variants.{Julian, Gregorian}
+use Rattle.calendar.specs.declared.style.Style.{Style}
 use Rattle.calendar.specs.declared.style.StyleAnswer.the-variants.{Known, NoStyle}
 use Rattle.calendar.specs.declared.year.NamedYear.{NamedYear}
-use Rattle.dating.specs.declared.line.Ending.{Ending}
 use Rattle.dating.specs.declared.line.Ending.the-variants.{At, NoEnding}
+use Rattle.dating.specs.declared.line.Ending.{Ending}
+use Rattle.dating.specs.declared.line.Reading.the-variants.{Dated, Refused}
+use Rattle.dating.specs.declared.line.Reading.{Reading}
 
 -- ---- style letters
-pub no-letter : (x : ℕ) → (x ≡ styleLetter Julian → ⊥) → (x ≡ styleLetter Gregorian → ⊥) → Told letters Known (NoStyle Form) (x ∷ []) (NoStyle Form)
+pub no-letter : (x : ℕ) → (x ≡ styleLetter Julian → ⊥) → (x ≡ styleLetter Gregorian → ⊥)
+    → Told letters Known (NoStyle Form) (x ∷ []) (NoStyle Form)
 no-letter x no-j no-g = unproduced (λ s g e. none s e) refl
   where
     none : (s : Style) → styleLetter s ∷ [] ≡ x ∷ [] → ⊥
@@ -122,7 +127,8 @@ module _ (s : List ℕ) where
   module _ (i : ℕ) (b : BehindLast space (take (length s - 2) s) i) where
     year-cut : (x : Ended) → GoodYear (x .named) → x .front ++ ending (x .named) ≡ s
         → (0 < i) × (x .front ≡ take (i - 1) (take (length s - 2) s)) × (numeral (x .named .year) ≡ drop i (take (length s - 2) s))
-    year-cut x g e = known-cut space (take (length s - 2) s) i b (x .front) (numeral (x .named .year)) (year-lacks-space (x .named) g) (ended x e .1 .0)
+    year-cut x g e =
+        known-cut space (take (length s - 2) s) i b (x .front) (numeral (x .named .year)) (year-lacks-space (x .named) g) (ended x e .1 .0)
 
     pub no-year-space : i ≡ 0 → TellsEnding NoEnding
     no-year-space z = unended (λ x g e. let k = year-cut x g e in omega arith)
@@ -147,11 +153,6 @@ module _ (s : List ℕ) where
           (rw (length-take-le (i - 1) front (omega arith)))
 
 -- ---- lines
--- the last byte of a line is its style's letter
-pub last-letter : (s : List ℕ) (l : Line) → spellLine l ≡ s → (1 ≤ length s) × (getD s (length s - 1) 0 ≡ styleLetter (l .named .style))
-unfolding spellLine
-last-letter s l e = let k = ended s (record { front = spellPhrase (l .phrase); named = l .named }) e in (omega (arith, k .0), k .1 .1 .1)
-
 -- no line is shorter than `1.1 1 J`
 phrase-length : (p : Phrase) → GoodPhrase p → 3 ≤ length (spellPhrase p)
 unfolding spellPhrase GoodPhrase
@@ -171,18 +172,21 @@ line-length l g =
     let year = numeral-length (t .year) .0 in
     omega arith
 
-pub one-line : OneReading lines
+-- No bytes are spelled by two good lines.
+pub one-reading : (l m : Line) → GoodLine l → GoodLine m → spellLine l ≡ spellLine m → l ≡ m
 unfolding spellLine
-one-line l m g h e =
+one-reading l m g h e =
     let k = one-ending (spellPhrase (l .phrase)) (spellPhrase (m .phrase)) (l .named) (m .named) (g .year) (h .year) e in
     let phrase = one-phrase (l .phrase) (m .phrase) (g .phrase) (h .phrase) (k .0) in
     λ i. record { phrase = phrase i; named = k .1 i }
 
-pub one-answer : {R : Type 0} {meaning : Line → R} {refused : Refusal → R} {s : List ℕ} (r q : R) → LineTold meaning refused s r → LineTold meaning refused s q → r ≡ q
+-- Any two answers that a call of the line may give are equal, whatever it asks of the line.
+pub one-answer : {R : Type 0} {meaning : Line → R} {refused : Refusal → R} {s : List ℕ} (r q : R)
+    → LineTold meaning refused s r → LineTold meaning refused s q → r ≡ q
 one-answer r q (unfit h m) (unfit k n) = m ∙ sym n
 one-answer r q (unfit h m) (fit k t) = no-false (sym k ∙ h)
 one-answer r q (fit h t) (unfit k n) = no-false (sym h ∙ k)
-one-answer r q (fit h t) (fit k u) = one-told one-line r q t u
+one-answer r q (fit h t) (fit k u) = one-told one-reading r q t u
 
 -- what is made of the answer is told by the meaning that is made so
 pub line-map : {R Q : Type 0} {meaning : Line → R} {refused : Refusal → R} {s : List ℕ} (f : R → Q) (r : R)
@@ -199,38 +203,64 @@ pub too-many : (s : List ℕ) → 120 < length s → IsDayOfLine s (NoDay Length
 unfolding between
 too-many s h = unfit (rw (le-leb 1 (length s) (omega arith), lt-leb (length s) 120 h)) refl
 
-module _ (s : List ℕ) where
-  pub line-fits : (length s ≡ 0 → ⊥) → length s ≤ 120 → (r : DayAnswer) → Told lines lineDay (NoDay Form) s r → IsDayOfLine s r
-  line-fits some few r told = fit (in-range 1 (length s) 120 (omega arith) few) told
+module _ (s : List ℕ) (some : length s ≡ 0 → ⊥) (few : length s ≤ 120) where
+  pub length-fits : lengthFits s ≡ true
+  length-fits = in-range 1 (length s) 120 (omega arith) few
 
-  pub no-ending : (r : Ending) → TellsEnding s r → r ≡ NoEnding → Told lines lineDay (NoDay Form) s (NoDay Form)
+  pub no-ending : (r : Ending) → TellsEnding s r → r ≡ NoEnding → IsDayOfLine s (NoDay Form)
   unfolding spellLine
   no-ending r (produced x g e m) z = let f : At (length (x .front)) (x .named) ≡ NoEnding = sym m ∙ z in no-false cc
-  no-ending r (unproduced none m) z = unproduced (λ l g e. none (record { front = spellPhrase (l .phrase); named = l .named }) (g .year) e) refl
+  no-ending r (unproduced none m) z =
+      fit length-fits (unproduced (λ l g e. none (record { front = spellPhrase (l .phrase); named = l .named }) (g .year) e) refl)
 
-  module _ (k : ℕ) (t : NamedYear) (ends : TellsEnding s (At k t)) where
-    abbrev Ending-of : Type 0
-    Ending-of = (k ≤ length s) × (GoodYear t × (take k s ++ ending t ≡ s))
+module _ (s : List ℕ) (k : ℕ) (t : NamedYear) (ends : TellsEnding s (At k t)) where
+  abbrev Ending-of : Type 0
+  Ending-of = (k ≤ length s) × (GoodYear t × (take k s ++ ending t ≡ s))
 
-    pub ending-of : Ending-of
-    ending-of = go ends
-      where
-        go : TellsEnding s (At k t) → Ending-of
-        go (unproduced none m) = no-false cc
-        go (produced x g e m) =
-            let same : t ≡ x .named = cc in
-            let count : k ≡ length (x .front) = cc in
-            let long = sym (ap length e) ∙ length-append (x .front) (ending (x .named)) in
-            let front : take k s ≡ x .front = rw (count, ← e) (take-append-seam (x .front) (ending (x .named))) in
-            (omega arith, (rw same g, rw (same, front) e))
+  pub ending-of : Ending-of
+  ending-of = go ends
+    where
+      go : TellsEnding s (At k t) → Ending-of
+      go (unproduced none m) = no-false cc
+      go (produced x g e m) =
+          let same : t ≡ x .named = cc in
+          let count : k ≡ length (x .front) = cc in
+          let long = sym (ap length e) ∙ length-append (x .front) (ending (x .named)) in
+          let front : take k s ≡ x .front = rw (count, ← e) (take-append-seam (x .front) (ending (x .named))) in
+          (omega arith, (rw same g, rw (same, front) e))
 
-    -- the phrase and the year of a line that is spelled so
-    pub its-phrase : (l : Line) → GoodLine l → spellLine l ≡ s → (spellPhrase (l .phrase) ≡ take k s) × (l .named ≡ t)
-    unfolding spellLine
-    its-phrase l g e = one-ending (spellPhrase (l .phrase)) (take k s) (l .named) t (g .year) (ending-of .1 .0) (e ∙ sym (ending-of .1 .1))
+  pub size : length (take k s) ≡ k
+  size = length-take-le k s (ending-of .0)
 
-    pub line-told : (r : DayAnswer) → Told phrases (phraseDay t) (NoDay Form) (take k s) r → Told lines lineDay (NoDay Form) s r
-    unfolding spellLine lineDay
-    line-told r (produced p g e m) =
-        produced (record { phrase = p; named = t }) (record { phrase = g; year = ending-of .1 .0 }) (rw e (ending-of .1 .1)) m
-    line-told r (unproduced none m) = unproduced (λ l g e. none (l .phrase) (g .phrase) (its-phrase l g e .0)) m
+  -- the reading of a line by the day of its phrase
+  abbrev pub readAs : DayAnswer → Reading
+  readAs (Day n) = Dated (t .style) n k
+  readAs (NoDay x) = Refused x
+
+  pub line-read : lengthFits s ≡ true → (r : DayAnswer) → Told phrases (phraseDay t) (NoDay Form) (take k s) r → IsReading s (readAs r)
+  unfolding spellLine lineDay
+  line-read fits (Day n) (unproduced none m) = no-day Form n (sym m)
+  line-read fits (Day n) (produced p g e m) =
+      record {
+        fits = fits;
+        line = record { phrase = p; named = t };
+        good = record { phrase = g; year = ending-of .1 .0 };
+        spelled = rw e (ending-of .1 .1);
+        day = sym m;
+        style = refl;
+        phrase = ap length e ∙ size;
+      }
+  line-read fits (NoDay x) (produced p g e m) =
+      fit fits (produced (record { phrase = p; named = t }) (record { phrase = g; year = ending-of .1 .0 }) (rw e (ending-of .1 .1)) m)
+  line-read fits (NoDay x) (unproduced none m) =
+      fit fits (unproduced (λ l g e.
+      let same = one-ending (spellPhrase (l .phrase)) (take k s) (l .named) t (g .year) (ending-of .1 .0) (e ∙ sym (ending-of .1 .1)) in
+      none (l .phrase) (g .phrase) (same .0)) m)
+
+-- ---- what a reading says
+pub day-read : (s : List ℕ) (y : Style) (n k : ℕ) → ReadFrom s y n k → IsDayOfLine s (Day n)
+day-read s y n k r = fit (r .fits) (produced (r .line) (r .good) (r .spelled) (sym (r .day)))
+
+pub read-in-span : (s : List ℕ) (y : Style) (n k : ℕ) → ReadFrom s y n k → inSpan y n ≡ true
+unfolding lineDay
+read-in-span s y n k r = rw (r .style) at (phrase-in-span (r .line .named) (r .line .phrase) n (r .day))

@@ -1,34 +1,28 @@
 -- The part: where the last word of the phrase begins, and what stands there.
-use mathlib.Core.Bool.{Bool, true, false}
 use mathlib.Core.List.{List, [], _∷_, _++_, append-assoc, append-nil}
-use mathlib.Core.Path.{_≡_, refl, sym, _∙_, ap, subst}
+use mathlib.Core.Path.{_≡_, refl, sym, _∙_, ap, ap₂, subst}
 use Prim.Native.Nat.{ℕ, _+_, _-_, _≤_}
 use native.Mathlib.Decide.{decLt}
 use native.Mathlib.Omega.{arith}
 use lib.ListN.{length, take, drop, length-append}
 use lib.Seq.{append-snoc, drop-at, take-append-seam, length-take-le}
 use denote.Ref.{RefT, ptr, now}
-use Rattle.calendar.proofs.refusal.Laws.{no-day}
 use Rattle.words.proofs.text.Laws.{no-false, has-here, cut, known-cut}
 use Rattle.words.proofs.wrapper.Laws.{spaced}
 use Rattle.dating.proofs.anchor.Laws.{lacks-space}
-use Rattle.dating.proofs.line.Laws.{TellsEnding, no-ending, ending-of, its-phrase}
-use Rattle.calendar.specs.Range.{between}
 use Rattle.words.specs.Text.{space, has, BehindLast}
-use Rattle.words.specs.Told.{Told, produced, unproduced}
+use Rattle.words.specs.Told.{produced, unproduced}
 use Rattle.words.specs.Wrapper.{wrapperWords}
 use Rattle.dating.specs.Anchor.{spellAnchor, GoodAnchor}
-use Rattle.dating.specs.Line.{Line, ending, spellLine, lines, lineDay, unfit, fit, IsDayOfLine}
+use Rattle.dating.specs.Line.{Line, ending, spellLine, lineDay, unfit, fit, IsDayOfLine}
 use Rattle.dating.specs.Part.{Part, bytesBefore, anchorPart, emptyPart, ifAccepted, linePart, IsPart, placeOf, IsPlace, PartOf}
 use Rattle.dating.specs.Phrase.{Phrase, plain, wrapped, spellPhrase, GoodPhrase, anchorOf}
+use Rattle.dating.specs.Steps.{ReadFrom}
 use Rattle.calendar.specs.declared.refusal.Refusal.{Refusal}
-use Rattle.calendar.specs.declared.refusal.Refusal.the-variants.{Length, Form}
-use Rattle.calendar.specs.declared.span.DayAnswer.{DayAnswer}
 use Rattle.calendar.specs.declared.span.DayAnswer.the-variants.{Day, NoDay}
-use Rattle.calendar.specs.declared.year.NamedYear.{NamedYear}
+use Rattle.calendar.specs.declared.span.DayAnswer.{DayAnswer}
+use Rattle.calendar.specs.declared.style.Style.{Style}
 use Rattle.words.specs.declared.wrapper.Wrapper.{Wrapper}
-use Rattle.dating.specs.declared.line.Ending.{Ending}
-use Rattle.dating.specs.declared.line.Ending.the-variants.{At, NoEnding}
 use Rattle.dating.specs.declared.part.Place.{Place}
 
 -- the words of all wrappers of a phrase
@@ -86,28 +80,26 @@ module _ (s : List ℕ) where
   pub refused-place : (x : Refusal) → IsDayOfLine s (NoDay x) → IsPlace s (placeOf emptyPart)
   unfolding linePart
   refused-place x (unfit h m) = unfit h refl
-  refused-place x (fit h (produced l g e m)) = fit h (produced l g e (rw (← m)))
   refused-place x (fit h (unproduced none m)) = fit h (unproduced none refl)
+  refused-place x (fit h (produced l g e m)) = fit h (produced l g e (rw (← m)))
 
-  pub no-place : (r : Ending) → TellsEnding s r → r ≡ NoEnding → IsPlace s (placeOf emptyPart)
-  no-place r told z = go (between 1 (length s) 120) refl (no-ending s r told z)
-    where
-      go : (b : Bool) → between 1 (length s) 120 ≡ b → Told lines lineDay (NoDay Form) s (NoDay Form) → IsPlace s (placeOf emptyPart)
-      go false h t = unfit h refl
-      go true h t = refused-place Form (fit h t)
+  module _ (y : Style) (n k : ℕ) (r : ReadFrom s y n k) where
+    its-phrase : take k s ≡ spellPhrase (r .line .phrase)
+    unfolding spellLine
+    its-phrase =
+        let p = spellPhrase (r .line .phrase) in
+        ap₂ take (sym (r .phrase)) (sym (r .spelled)) ∙ take-append-seam p (ending (r .line .named))
 
-  module _ (n k i : ℕ) (t : NamedYear) (ends : TellsEnding s (At k t)) (b : BehindLast space (take k s) i) where
-    pub accepted-place : IsDayOfLine s (Day n) → IsPlace s (record { start = i; end = k })
+    pub phrase-fits : length (take k s) ≡ k
+    phrase-fits = ap length its-phrase ∙ r .phrase
+
+    pub accepted-place : (i : ℕ) → BehindLast space (take k s) i → IsPlace s (record { start = i; end = k })
     unfolding linePart
-    accepted-place (unfit h m) = no-day Length n (sym m)
-    accepted-place (fit h (unproduced none m)) = no-day Form n (sym m)
-    accepted-place (fit h (produced l g e m)) =
-        let p = l .phrase in
-        let phrase = its-phrase s k t ends l g e .0 in
-        let start = last-word p i (g .phrase) (rw (← phrase) at b) in
-        let size = ap length phrase ∙ length-take-le k s (ending-of s k t ends .0) in
-        let stop : k ≡ bytesBefore p + length (spellAnchor (anchorOf p)) = sym size ∙ phrase-long p in
-        fit h (produced l g e (rw (← m) (λ j. record { start = start j; end = stop j })))
+    accepted-place i b =
+        let p = r .line .phrase in
+        let start = last-word p i (r .good .phrase) (rw its-phrase at b) in
+        let stop : k ≡ bytesBefore p + length (spellAnchor (anchorOf p)) = sym (r .phrase) ∙ phrase-long p in
+        fit (r .fits) (produced (r .line) (r .good) (r .spelled) (rw (r .day) (λ j. record { start = start j; end = stop j })))
 
   -- the part whose place it is
   its-part : (r : Place) → IsPlace s r → (p : Part) × IsPart s p × (r ≡ placeOf p)
@@ -131,18 +123,19 @@ module _ (s : List ℕ) where
       let long = leads-long p in
       (omega arith, rw (← whole, drop-at (leads p) (a ++ ending (l .named)) (bytesBefore p) long) (take-append-seam a (ending (l .named))))
 
-  pub stands : (p : Part) → IsPart s p → Stands p
+  -- The part stands in the line where it is said to.
+  pub part-stands : (p : Part) → IsPart s p → Stands p
   unfolding linePart
-  stands p (unfit h m) = rw m (omega arith, refl)
-  stands p (fit h (produced l g e m)) = rw m (accepted-stands (lineDay l) l e)
-  stands p (fit h (unproduced none m)) = rw m (omega arith, refl)
+  part-stands p (unfit h m) = rw m (omega arith, refl)
+  part-stands p (fit h (produced l g e m)) = rw m (accepted-stands (lineDay l) l e)
+  part-stands p (fit h (unproduced none m)) = rw m (omega arith, refl)
 
 -- the slice between a part's places is the part
 module _ (s : List ℕ) where
   part-bytes : (p : Part) → IsPart s p → take (placeOf p .end - placeOf p .start) (drop (placeOf p .start) s) ≡ p .text
   part-bytes p h =
       let count : p .start + length (p .text) - p .start ≡ length (p .text) = omega arith in
-      rw count (stands s p h .1)
+      rw count (part-stands s p h .1)
 
   module _ (r : Place) (h : IsPlace s r) where
     pub ordered : r .start ≤ r .end
@@ -151,7 +144,7 @@ module _ (s : List ℕ) where
     pub inside : r .end ≤ length s
     inside =
         let p = its-part s r h in
-        rw (p .2) (stands s (p .0) (p .1) .0)
+        rw (p .2) (part-stands s (p .0) (p .1) .0)
 
 -- so a slice that lies there is the part
 pub lies-there : (x r : RefT (List ℕ)) (q : Place) → IsPlace (now x) q → now r ≡ take (q .end - q .start) (drop (q .start) (now x))

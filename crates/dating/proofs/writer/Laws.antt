@@ -1,32 +1,29 @@
 -- Bytes put into a buffer one behind the other, and what dates are made of.
-use mathlib.Core.Bool.{Bool, true, false}
+use mathlib.Core.Bool.{true}
 use mathlib.Core.List.{List, [], _∷_, _++_, append-assoc}
-use mathlib.Core.Logic.{_⊎_, inl, inr}
 use mathlib.Core.Path.{_≡_, refl, sym, _∙_, ap}
 use Prim.Native.Nat.{ℕ, suc, _+_, _-_, _/_, _%_, _<_, _≤_}
 use native.Mathlib.Omega.{arith}
-use lib.Dec.{leb}
 use lib.ListN.{length, set, length-append}
 use lib.Seq.{sets, length-sets, sets-eq, set-comm}
 use borrow.Author.Tests.{le-leb, lt-leb}
-use Rattle.calendar.proofs.date.Laws.{date-small, one-answer}
+use Rattle.calendar.proofs.date.Laws.{date-small, day-date, one-answer-in-style}
 use Rattle.calendar.proofs.range.Laws.{in-range}
-use Rattle.calendar.proofs.refusal.Laws.{refused-by}
+use Rattle.calendar.proofs.refusal.Laws.{refused-by, both-checked}
 use Rattle.words.proofs.numeral.Laws.{one-digit, more-digits, more-length, two-digits, four-digits}
 use Rattle.dating.proofs.line.Laws.{line-length}
 use Rattle.calendar.specs.Date.{dayInYear}
-use Rattle.calendar.specs.Refusal.{unless}
 use Rattle.calendar.specs.Span.{inSpan, within}
 use Rattle.calendar.specs.Style.{styleLetter}
 use Rattle.calendar.specs.Year.{named}
 use Rattle.words.specs.Numeral.{digit, numeral, field}
 use Rattle.words.specs.Text.{space, point, over}
 use Rattle.words.specs.Told.{produced}
-use Rattle.dating.specs.Anchor.{date, spellAnchor, GoodAnchor, anchorDay}
-use Rattle.dating.specs.Line.{Line, spellLine, GoodLine, lineDay, fit, IsDayOfLine}
-use Rattle.dating.specs.Phrase.{plain, spellPhrase, GoodPhrase, anchorOf, wrappersAct, phraseDay}
+use Rattle.dating.specs.Anchor.{date, spellAnchor, GoodAnchor}
+use Rattle.dating.specs.Line.{Line, ending, spellLine, GoodLine, lineDay, fit, IsDayOfLine}
+use Rattle.dating.specs.Phrase.{plain, spellPhrase, GoodPhrase, anchorOf, comesTo, staysIn, phraseDay}
 use Rattle.dating.specs.Steps.{Put, PutsDate}
-use Rattle.dating.specs.Writer.{dateText, IsDateText, bytesOrRefusal, Refuses, Puts, WritesInStyle}
+use Rattle.dating.specs.Writer.{dateText, IsDateText, writeTests, Refuses, Puts, WritesInStyle}
 use Rattle.calendar.specs.declared.date.DateAnswer.{DateAnswer}
 use Rattle.calendar.specs.declared.date.DateAnswer.the-variants.{On, NoDate}
 use Rattle.calendar.specs.declared.refusal.Refusal.{Refusal}
@@ -59,7 +56,8 @@ sets-start w s h = let e : 0 + length w ≡ length w = omega arith in sets-eq w 
 
 -- ---- a numeral, put from its last digit on
 module _ (s : List ℕ) (at n : ℕ) where
-  pub last-digit : 10 ≤ n → n ≤ 18446744073709551616 → sets (set s (at + length (numeral n) - 1) (digit (n % 10))) at (numeral (n / 10)) ≡ sets s at (numeral n)
+  pub last-digit : 10 ≤ n → n ≤ 18446744073709551616
+      → sets (set s (at + length (numeral n) - 1) (digit (n % 10))) at (numeral (n / 10)) ≡ sets s at (numeral n)
   last-digit low high =
       let more = more-length n low high in
       let e : at + length (numeral n) - 1 ≡ at + length (numeral (n / 10)) = omega arith in
@@ -89,19 +87,17 @@ module _ (t : NamedYear) (m d : ℕ) where
   abbrev letter : List ℕ
   letter = styleLetter (t .style) ∷ []
 
-  date-fields : dateText t m d ≡ field d point ++ field m space ++ field (t .year) space ++ letter
-  date-fields = simp (append-assoc {A = ℕ})
-
   pub date-length : length (dateText t m d) ≡ length (field d point) + length (field m space) + length (field (t .year) space) + 1
   date-length =
       let a = length-append (field d point ++ field m space ++ field (t .year) space) letter in
       let b = length-append (field d point ++ field m space) (field (t .year) space) in
       let c = length-append (field d point) (field m space) in
-      ap length date-fields ∙ omega arith
+      omega arith
 
-  module _ {s a b c : List ℕ} {i j k l : ℕ} (p : Put s i (field d point) a j) (q : Put a j (field m space) b k) (r : Put b k (field (t .year) space) c l) where
+  module _ {s a b c : List ℕ} {i j k l : ℕ} (p : Put s i (field d point) a j) (q : Put a j (field m space) b k)
+      (r : Put b k (field (t .year) space) c l) where
     pub date-put : (x : ℕ) → x ≡ styleLetter (t .style) → Put s i (dateText t m d) (set c l x) (l + 1)
-    date-put x e = rw (date-fields, ← e) (put-on (put-on (put-on p q) r) (put-byte c l x))
+    date-put x e = rw (← e) (put-on (put-on (put-on p q) r) (put-byte c l x))
 
     -- room for the letter
     pub letter-room : i + length (dateText t m d) ≤ length s → l < length c
@@ -156,7 +152,9 @@ module _ (s : Style) (n : ℕ) (before : List ℕ) where
 
 -- ---- one text for each day, which reads back as the day
 pub one-text : (s : Style) (n : ℕ) (v w : List ℕ) → IsDateText s n v → IsDateText s n w → v ≡ w
-one-text s n v w p q = p .text ∙ ap text (one-answer s n (on p) (on q) (p .is-date) (q .is-date)) ∙ sym (q .text)
+one-text s n v w p q =
+    let same = one-answer-in-style s n (on p) (on q) (day-date s n _ _ _ (p .is-date)) (day-date s n _ _ _ (q .is-date)) in
+    p .text ∙ ap text same ∙ sym (q .text)
   where
     on : {w : List ℕ} → IsDateText s n w → DateAnswer
     on t = On (t .year) (t .month) (t .day)
@@ -166,15 +164,18 @@ one-text s n v w p q = p .text ∙ ap text (one-answer s n (on p) (on q) (p .is-
     text (NoDate x) = []
 
 -- the line of the grammar that a written date is
+date-spelled : (t : NamedYear) (m d : ℕ) → numeral d ++ point ∷ numeral m ++ ending t ≡ dateText t m d
+date-spelled t m d = simp (append-assoc {A = ℕ})
+
 date-line : (s : Style) (n : ℕ) (w : List ℕ) → IsDateText s n w → (l : Line) × (GoodLine l × ((spellLine l ≡ w) × (lineDay l ≡ Day n)))
-unfolding spellLine spellPhrase spellAnchor GoodPhrase GoodAnchor lineDay phraseDay wrappersAct anchorOf anchorDay
+unfolding spellLine spellPhrase spellAnchor GoodPhrase GoodAnchor lineDay phraseDay comesTo staysIn anchorOf dayInYear
 date-line s n w t =
     let small = date-small s n (t .year) (t .month) (t .day) (t .is-date) in (
       record { phrase = plain (date (t .day) (t .month)); named = named s (t .year) },
-      (record { phrase = (small .0, small .1); year = small .2 }, (sym (t .text), t .is-date)),
+      (record { phrase = (small .0, small .1); year = small .2 }, (date-spelled (named s (t .year)) (t .month) (t .day) ∙ sym (t .text), t .is-date)),
     )
 
-seven-bytes : (s : Style) (n : ℕ) (w : List ℕ) → IsDateText s n w → 7 ≤ length w
+pub seven-bytes : (s : Style) (n : ℕ) (w : List ℕ) → IsDateText s n w → 7 ≤ length w
 seven-bytes s n w t = let l = date-line s n w t in rw (l .1 .1 .0) at (line-length (l .0) (l .1 .0))
 
 pub reads-back : (s : Style) (n : ℕ) (w : List ℕ) → IsDateText s n w → IsDayOfLine w (Day n)
@@ -189,32 +190,13 @@ module _ (before a b : List ℕ) (r q : WriteAnswer) where
   pub one-refusal : (x : Refusal) → Refuses before a r x → Refuses before b q x → (r ≡ q) × (a ≡ b)
   one-refusal x h g = (h .0 ∙ sym (g .0), h .1 ∙ sym (g .1))
 
-  pub one-in-style : (s : Style) (n : ℕ) → WritesInStyle before a r s n → WritesInStyle before b q s n → (r ≡ q) × (a ≡ b)
-  one-in-style s n h g = go (leb 12 (length before)) (inSpan s n) h g
-    where
-      go : (c d : Bool) → unless c (Refuses before a r Length) (unless d (Refuses before a r Span) ((w : List ℕ) × (IsDateText s n w × Puts before a r w)))
-          → unless c (Refuses before b q Length) (unless d (Refuses before b q Span) ((w : List ℕ) × (IsDateText s n w × Puts before b q w)))
-          → (r ≡ q) × (a ≡ b)
-      go false d h g = one-refusal Length h g
-      go true false h g = one-refusal Span h g
-      go true true h g =
-          let same = one-text s n (h .0) (g .0) (h .1 .0) (g .1 .0) in
-          (h .1 .1 .0 ∙ ap (λ (w : List ℕ). Bytes (length w)) same ∙ sym (g .1 .1 .0), h .1 .1 .1 ∙ ap (λ (w : List ℕ). over w before) same ∙ sym (g .1 .1 .1))
+  one-put : (s : Style) (n : ℕ) (v w : List ℕ) → IsDateText s n v → IsDateText s n w
+      → Puts before a r v → Puts before b q w → (r ≡ q) × (a ≡ b)
+  one-put s n v w p k h g =
+      let same = one-text s n v w p k in
+      (h .0 ∙ ap (λ (w : List ℕ). Bytes (length w)) same ∙ sym (g .0), h .1 ∙ ap (λ (w : List ℕ). over w before) same ∙ sym (g .1))
 
--- ---- the numbers of an answer
--- a refusal, or 7 to 12 bytes
-abbrev pub WriteNumber : ℕ → Type 0
-WriteNumber n = (n ≡ 1) ⊎ ((n ≡ 2) ⊎ ((n ≡ 6) ⊎ ((7 ≤ n) × (n ≤ 12))))
-
-pub number-in-style : (before after : List ℕ) (r : WriteAnswer) (s : Style) (n : ℕ) → WritesInStyle before after r s n → WriteNumber (bytesOrRefusal r)
-number-in-style before after r s n h = go (leb 12 (length before)) (inSpan s n) h
-  where
-    go : (c d : Bool) → unless c (Refuses before after r Length) (unless d (Refuses before after r Span) ((w : List ℕ) × (IsDateText s n w × Puts before after r w)))
-        → WriteNumber (bytesOrRefusal r)
-    go false d h = inr (inl (ap bytesOrRefusal (h .0)))
-    go true false h = inr (inr (inl (ap bytesOrRefusal (h .0))))
-    go true true h =
-        let few = text-length s n (h .0) (h .1 .0) in
-        let some = seven-bytes s n (h .0) (h .1 .0) in
-        let e = ap bytesOrRefusal (h .1 .1 .0) in
-        inr (inr (inr (omega arith, omega arith)))
+  -- Any two results of the writer are one, in a style.
+  pub one-writing-in-style : (s : Style) (n : ℕ) → WritesInStyle before a r s n → WritesInStyle before b q s n → (r ≡ q) × (a ≡ b)
+  one-writing-in-style s n h g =
+      both-checked (writeTests (length before) s n) one-refusal (λ p k. one-put s n (p .0) (k .0) (p .1 .0) (k .1 .0) (p .1 .1) (k .1 .1)) h g

@@ -1,17 +1,17 @@
 use mathlib.Core.Bool.{true}
-use mathlib.Core.Path.{_≡_, refl}
+use mathlib.Core.Path.{_≡_}
 use native.Mathlib.Omega.{arith}
 use borrow.Author.Needs.{needs}
 use Rattle.calendar.proofs.Tested.{failed, held}
 use Rattle.calendar.proofs.date.Dates.{in-year, found}
-use Rattle.calendar.proofs.date.Laws.{has-day}
+use Rattle.calendar.proofs.date.Laws.{has-day, day-date}
 use Rattle.calendar.proofs.span.Laws.{span-small, served-small, year-served}
 use Rattle.calendar.specs.Span.{inSpan}
 use Rattle.calendar.proofs.date.date_in_style.Statement.{statement}
 use Rattle.calendar.proofs.date.date_in_style.Tie as tie
 
 returns : tie.Need-returns
-returns c = (failed (c .before .is-in-span .ensures) (c .if1 .taken), refl)
+returns c = rw (failed (c .before .is-in-span .ensures) (c .if1 .taken))
 
 day-is : (c : tie.Else1) → inSpan (c .before .before .args .style) (c .before .before .args .day) ≡ true
 day-is c = held (c .before .is-in-span .ensures) (c .if1 .left)
@@ -31,9 +31,9 @@ add-t13 c = omega (arith, span-small _ _ (day-is (c .before .before .before .bef
 returns-2 : tie.Need-returns-2
 returns-2 c =
     rw (c .days-before .ensures, c .before .before .is-leap .ensures, c .before .before .before .new-year .ensures)
-    (has-day _ _ _ _ _ (day-is (c .before .before .before .before .before))
+    (day-date _ _ _ _ _ (has-day _ _ _ _ _ (day-is (c .before .before .before .before .before))
     (found _ _ _ _ (c .before .before .before .before .year-at .ensures)
-    (rw (c .before .before .is-leap .ensures, c .before .before .before .new-year .ensures) at (c .before .month-at .ensures))))
+    (rw (c .before .before .is-leap .ensures, c .before .before .before .new-year .ensures) at (c .before .month-at .ensures)))))
 
 pub date-in-style-spec : {M : Type 1} → statement M
 date-in-style-spec =
@@ -43,10 +43,8 @@ date-in-style-spec =
     returns
     year-at-requires
     new-year-requires
-    (λ c. search needs)
-    (λ c κs. search needs)
+    (λ c. search needs) (λ c κs. search needs)
     month-at-requires
-    (λ c κs. search needs)
-    (λ c. search needs)
+    (λ c κs. search needs) (λ c. search needs)
     add-t13
     returns-2)

@@ -24,11 +24,4 @@ returns-2 c = rw (month-is (c .before .before .before), c .is-between2 .ensures,
 
 pub is-date-spec : {M : Type 1} → statement M
 is-date-spec =
-    tie.close
-    (tie.spec
-    (λ c κs. search needs)
-    returns
-    (λ c κs. search needs)
-    month-length-requires
-    (λ c κs. search needs)
-    returns-2)
+    tie.close (tie.spec (λ c κs. search needs) returns (λ c κs. search needs) month-length-requires (λ c κs. search needs) returns-2)

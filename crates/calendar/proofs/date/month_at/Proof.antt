@@ -22,12 +22,4 @@ returns-3 c = this-month _ _ (c .before .before .before .pre) (before-last (c .b
 
 pub month-at-spec : {M : Type 1} → statement M
 month-at-spec =
-    tie.close
-    (tie.spec
-    (λ c. search needs)
-    returns
-    (λ c. search needs)
-    days-before-requires
-    (λ c. search needs)
-    returns-2
-    returns-3)
+    tie.close (tie.spec (λ c. search needs) returns (λ c. search needs) days-before-requires (λ c. search needs) returns-2 returns-3)

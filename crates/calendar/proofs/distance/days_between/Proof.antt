@@ -8,14 +8,15 @@ use mir.Val.{SFits, toZ}
 use borrow.Author.Needs.{needs}
 use Rattle.calendar.proofs.distance.Laws.{distance-fits}
 use Rattle.calendar.specs.Distance.{distance}
+use Rattle.calendar.specs.Span.{latest}
 use Rattle.calendar.proofs.distance.days_between.Statement.{statement}
 use Rattle.calendar.proofs.distance.days_between.Tie as tie
 
 -- days that are small are read as themselves
-read : (a b : ℕ) → a ≤ 5373557 → b ≤ 5373557 → toZ w32 b -ℤ toZ w32 a ≡ distance a b
+read : (a b : ℕ) → a ≤ latest → b ≤ latest → toZ w32 b -ℤ toZ w32 a ≡ distance a b
 read a b h g = rw (toZ-pos w32 {n = b} (omega arith), toZ-pos w32 {n = a} (omega arith))
 
-fits : (a b : ℕ) → a ≤ 5373557 → b ≤ 5373557 → SFits w32 (toZ w32 b -ℤ toZ w32 a)
+fits : (a b : ℕ) → a ≤ latest → b ≤ latest → SFits w32 (toZ w32 b -ℤ toZ w32 a)
 fits a b h g = rw (read a b h g) (distance-fits a b h g)
 
 sub-result : tie.Need-sub-result

@@ -10,7 +10,9 @@ use Rattle.calendar.proofs.weekday.first_weekday.Statement.{statement}
 use Rattle.calendar.proofs.weekday.first_weekday.Tie as tie
 
 returns : tie.Need-returns
-returns c = sym (no-weekday (c .before .before .args .side) _ _ (λ low high. true≢false (sym (in-range 1 _ 7 low high) ∙ failed (c .before .is-between .ensures) (c .if1 .taken))))
+returns c =
+    let none = failed (c .before .is-between .ensures) (c .if1 .taken) in
+    sym (no-weekday (c .before .before .args .side) _ _ (λ low high. true≢false (sym (in-range 1 _ 7 low high) ∙ none)))
 
 week : (c : tie.Else1) → (1 ≤ c .before .before .args .weekday) × (c .before .before .args .weekday ≤ 7)
 week c = range 1 _ 7 (held (c .before .is-between .ensures) (c .if1 .left))
@@ -42,13 +44,9 @@ first-weekday-spec =
     (tie.spec
     (λ c κs. search needs)
     returns
-    (λ c. search needs)
-    (λ c. search needs)
-    (λ c. search needs)
+    (λ c. search needs) (λ c. search needs) (λ c. search needs)
     sub-result
-    (λ c. search needs)
-    (λ c. search needs)
-    (λ c. search needs)
+    (λ c. search needs) (λ c. search needs) (λ c. search needs)
     sub-back
     (λ c. search needs)
     returns-2

@@ -7,7 +7,9 @@ returns : tie.Need-returns
 returns c = estimate-low _ _ _ (rw (← c .before .new-year .ensures) (c .if1 .taken)) (c .before .before .year-estimate .ensures .3)
 
 returns-2 : tie.Need-returns-2
-returns-2 c = estimate-right _ _ _ (c .before .before .year-estimate .ensures .0) (c .before .before .year-estimate .ensures .2) (rw (← c .before .new-year .ensures) (c .if1 .left))
+returns-2 c =
+    let estimate = c .before .before .year-estimate .ensures in
+    estimate-right _ _ _ (estimate .0) (estimate .2) (rw (← c .before .new-year .ensures) (c .if1 .left))
 
 pub year-at-spec : {M : Type 1} → statement M
 year-at-spec =

@@ -36,14 +36,14 @@ returns : tie.Need-returns
 returns c =
     let day = c .before .before .args .day in
     let r = j-days c in
-    let g = estimated Julian day ((day - 1721424) * 4 / 1461) (r .0) (estimate-J _ _ refl) in
+    let g = estimated Julian day ((day - firstNewYear Julian) * 4 / 1461) (r .0) (estimate-J _ _ refl) in
     rw (c .enum-told .given .1) (omega arith, omega arith, g .0, g .1)
 
 returns-2 : tie.Need-returns-2
 returns-2 c =
     let day = c .before .before .args .day in
     let r = g-days c in
-    let g = estimated Gregorian day ((day - 1721426) * 400 / 146097) (r .0) (estimate-G _ _ refl) in
+    let g = estimated Gregorian day ((day - firstNewYear Gregorian) * 400 / 146097) (r .0) (estimate-G _ _ refl) in
     rw (c .enum-told2 .given .1) (omega arith, omega arith, g .0, g .1)
 
 pub year-estimate-spec : {M : Type 1} → statement M
@@ -53,8 +53,7 @@ year-estimate-spec =
     (λ c. search needs)
     sub-result
     mul-result
-    (λ c. search needs)
-    (λ c. search needs)
+    (λ c. search needs) (λ c. search needs)
     sub-result-2
     mul-result-2
     (λ c. search needs)

@@ -14,7 +14,8 @@ Inv-loop style epact arabic day₀ day = (8 ≤ day) × (day ≤ walk style epac
 abbrev μ-loop : tie.MeasureT-loop
 μ-loop style epact arabic day₀ day = 36 - day
 
-column : (c : tie.After-is-arabic Inv-loop μ-loop) → Walked (c .before .before .args .named .style) (c .before .epact-number .result) (c .is-arabic .result)
+column : (c : tie.After-is-arabic Inv-loop μ-loop)
+    → Walked (c .before .before .args .named .style) (c .before .epact-number .result) (c .is-arabic .result)
 column c = rw (c .before .epact-number .ensures, c .is-arabic .ensures) (walked _ _)
 
 loop-holds : tie.Need-loop-holds Inv-loop μ-loop
@@ -29,15 +30,17 @@ stands-at-requires c κs = (
 
 -- where the epact does not stand, the walk has not ended
 again : (c : tie.Else1 Inv-loop μ-loop)
-    → (8 ≤ c .before .before .loop .day + 1)
-    × (c .before .before .loop .day + 1 ≤ walk (c .before .before .before .before .before .args .named .style) (c .before .before .before .before .epact-number .result) (c .before .before .before .is-arabic .result))
+    → let k = c .before .before .before in
+    let d = c .before .before .loop .day in
+    (8 ≤ d + 1) × (d + 1 ≤ walk (k .before .before .args .named .style) (k .before .epact-number .result) (k .is-arabic .result))
 again c =
     let at = column (c .before .before .before) in
     let s = c .before .before .before .before .before .args .named .style in
     let e = c .before .before .before .before .epact-number .result in
     let a = c .before .before .before .is-arabic .result in
     let d = c .before .before .loop .day in
-    let ne : d ≡ walk s e a → ⊥ = λ q. true≢false (sym (at .there) ∙ ap (stands s e a) (sym q) ∙ sym (c .before .stands-at .ensures) ∙ c .if1 .left) in
+    let stands-not = sym (c .before .stands-at .ensures) ∙ c .if1 .left in
+    let ne : d ≡ walk s e a → ⊥ = λ q. true≢false (sym (at .there) ∙ ap (stands s e a) (sym q) ∙ stands-not) in
     (omega arith, omega (arith, c .before .before .loop .inv))
 
 add-day : tie.Need-add-day Inv-loop μ-loop
@@ -56,14 +59,4 @@ returns c =
 pub luna-one-spec : {M : Type 1} → statement M
 luna-one-spec =
     tie.close
-    (tie.spec
-    Inv-loop
-    μ-loop
-    (λ c κs. tt)
-    (λ c κs. c .epact-number .ensures)
-    loop-holds
-    stands-at-requires
-    add-day
-    loop-less
-    again
-    returns)
+    (tie.spec Inv-loop μ-loop (λ c κs. tt) (λ c κs. c .epact-number .ensures) loop-holds stands-at-requires add-day loop-less again returns)

@@ -16,11 +16,4 @@ cast-result c =
 
 pub easter-after-spec : {M : Type 1} → statement M
 easter-after-spec =
-    tie.close
-    (tie.spec
-    (λ c. search needs)
-    (λ c. search needs)
-    (λ c. search needs)
-    (λ c κs. search needs)
-    cast-result
-    returns)
+    tie.close (tie.spec (λ c. search needs) (λ c. search needs) (λ c. search needs) (λ c κs. search needs) cast-result returns)

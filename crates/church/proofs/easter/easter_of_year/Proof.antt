@@ -1,7 +1,7 @@
 use mathlib.Core.Bool.{true}
 use mathlib.Core.Path.{_≡_, sym, _∙_, ap}
 use borrow.Author.Needs.{needs}
-use Rattle.calendar.proofs.refusal.Laws.{passed-day, refused}
+use Rattle.calendar.proofs.refusal.Laws.{passed-day, refused-by}
 use Rattle.church.proofs.easter.Laws.{easter-asked, easter-closed}
 use Rattle.church.specs.Easter.{march, hasEaster}
 use Rattle.calendar.specs.declared.span.DayAnswer.the-variants.{Day}
@@ -12,7 +12,7 @@ returns : tie.Need-returns
 returns c =
     let named = c .before .before .before .args .named in
     let e = c .before .before .equinox .ensures in
-    e ∙ refused (hasEaster (named .style) (named .year)) _ _ _ _ (sym e ∙ c .enum-told .given .1)
+    e ∙ rw (refused-by (hasEaster (named .style) (named .year)) _ _ _ (sym e ∙ c .enum-told .given .1) .0)
 
 is-day : (c : tie.After-answer)
     → (hasEaster (c .before .before .before .args .named .style) (c .before .before .before .args .named .year) ≡ true)
@@ -32,11 +32,4 @@ returns-2 c =
 pub easter-of-year-spec : {M : Type 1} → statement M
 easter-of-year-spec =
     tie.close
-    (tie.spec
-    (λ c κs. search needs)
-    (λ c. search needs)
-    (λ c. search needs)
-    returns
-    (λ c κs. search needs)
-    easter-after-requires
-    returns-2)
+    (tie.spec (λ c κs. search needs) (λ c. search needs) (λ c. search needs) returns (λ c κs. search needs) easter-after-requires returns-2)

@@ -25,12 +25,4 @@ returns-2 c = rw (c .gregorian-epact .ensures, c .before .before .before .before
 
 pub epact-number-spec : {M : Type 1} → statement M
 epact-number-spec =
-    tie.close
-    (tie.spec
-    (λ c κs. search needs)
-    (λ c. search needs)
-    mul-result
-    (λ c. search needs)
-    gregorian-epact-requires
-    returns
-    returns-2)
+    tie.close (tie.spec (λ c κs. search needs) (λ c. search needs) mul-result (λ c. search needs) gregorian-epact-requires returns returns-2)

@@ -13,7 +13,9 @@ unfolding arabic
 returns-2 c = rw (c .enum-told .given .1)
 
 returns-3 : tie.Need-returns-3
-returns-3 c = rw (c .golden-number .ensures) (sym (is-25 _ _ (c .before .before .enum-told2 .given .1) (sym (c .before .before .before .before .pre) ∙ c .before .if1 .left)))
+returns-3 c =
+    let twenty-five = sym (c .before .before .before .before .pre) ∙ c .before .if1 .left in
+    rw (c .golden-number .ensures) (sym (is-25 _ _ (c .before .before .enum-told2 .given .1) twenty-five))
 
 pub is-arabic-spec : {M : Type 1} → statement M
 is-arabic-spec =

@@ -1,9 +1,10 @@
 use mathlib.Core.Bool.{true}
 use mathlib.Core.Path.{sym, _∙_, _≡_}
 use borrow.Author.Needs.{needs}
-use Rattle.calendar.proofs.refusal.Laws.{passed-day, refused}
+use Rattle.calendar.proofs.refusal.Laws.{passed-day, refused-by}
 use Rattle.church.proofs.feast.Laws.{advent-after, eve-answer}
 use Rattle.calendar.specs.Date.{dayNumber}
+use Rattle.calendar.specs.Span.{within}
 use Rattle.calendar.specs.Year.{served}
 use Rattle.church.proofs.feast.advent_of_year.Statement.{statement}
 use Rattle.church.proofs.feast.advent_of_year.Tie as tie
@@ -14,6 +15,7 @@ is-day : (c : tie.After-answer)
 is-day c = passed-day _ _ _ _ (sym (c .before .before .day-in-year .ensures ∙ eve-answer _ _) ∙ c .answer .given .1)
 
 returns-2 : tie.Need-returns-2
+unfolding within
 returns-2 c =
     let d = is-day (c .before .before .before) in
     rw (d .0, advent-after, d .1, ← c .before .first-weekday .ensures) (c .day-within .ensures)
@@ -22,16 +24,9 @@ returns : tie.Need-returns
 returns c =
     let named = c .before .before .before .args .named in
     let e = c .before .before .day-in-year .ensures ∙ eve-answer (named .style) (named .year) in
-    e ∙ refused (served (named .style) (named .year)) _ _ _ _ (sym e ∙ c .enum-told .given .1)
+    e ∙ rw (refused-by (served (named .style) (named .year)) _ _ _ (sym e ∙ c .enum-told .given .1) .0)
 
 pub advent-of-year-spec : {M : Type 1} → statement M
 advent-of-year-spec =
     tie.close
-    (tie.spec
-    (λ c κs. search needs)
-    (λ c. search needs)
-    (λ c. search needs)
-    returns
-    (λ c κs. search needs)
-    (λ c κs. search needs)
-    returns-2)
+    (tie.spec (λ c κs. search needs) (λ c. search needs) (λ c. search needs) returns (λ c κs. search needs) (λ c κs. search needs) returns-2)

@@ -4,11 +4,12 @@ use Prim.Native.Nat.{_+_, _-_, _≤_}
 use native.Mathlib.Omega.{arith}
 use lib.ListN.{getD}
 use borrow.Author.Needs.{needs}
-use Rattle.calendar.proofs.refusal.Laws.{passed-day, refused}
+use Rattle.calendar.proofs.refusal.Laws.{passed-day, refused-by}
 use Rattle.church.proofs.easter.Laws.{easter-small}
-use Rattle.church.proofs.feast.Laws.{fromEaster, hung-day, from-easter-small}
+use Rattle.church.proofs.feast.Laws.{fromEaster, hungDay, hung-day, from-easter-small}
+use Rattle.calendar.specs.Span.{earliest, latest, within}
 use Rattle.church.specs.Easter.{easter, hasEaster}
-use Rattle.church.specs.Feast.{rule, hungDay, ruleDay}
+use Rattle.church.specs.Feast.{rule, ruleDay}
 use Rattle.church.proofs.feast.hung_on_easter.Statement.{statement}
 use Rattle.church.proofs.feast.hung_on_easter.Tie as tie
 
@@ -24,7 +25,8 @@ returns : tie.Need-returns
 returns c =
     let named = c .before .before .before .args .named in
     let e = c .before .before .easter-of-year .ensures in
-    rw (hung (c .before .before .before)) (e ∙ refused (hasEaster (named .style) (named .year)) _ _ _ _ (sym e ∙ c .enum-told .given .1))
+    let none = refused-by (hasEaster (named .style) (named .year)) _ _ _ (sym e ∙ c .enum-told .given .1) in
+    rw (hung (c .before .before .before)) (e ∙ rw (none .0))
 
 is-day : (c : tie.After-answer)
     → (hasEaster (c .before .before .before .args .named .style) (c .before .before .before .args .named .year) ≡ true)
@@ -32,13 +34,16 @@ is-day : (c : tie.After-answer)
 is-day c = passed-day _ _ _ _ (sym (c .before .before .easter-of-year .ensures) ∙ c .answer .given .1)
 
 returns-2 : tie.Need-returns-2
+unfolding within
 returns-2 c = rw (hung (c .before .before .before .before .before), is-day (c .before .before) .0, is-day (c .before .before) .1) (c .day-within .ensures)
 
-sizes : (c : tie.After-answer) → (1721424 ≤ c .answer .given .0 .0) × (c .answer .given .0 .0 ≤ 5373557)
+sizes : (c : tie.After-answer) → (earliest ≤ c .answer .given .0 .0) × (c .answer .given .0 .0 ≤ latest)
 sizes c = rw (← is-day c .1) (easter-small _ _ (is-day c .0))
 
 add-day-within : tie.Need-add-day-within
-add-day-within c = omega (arith, sizes (c .before), from-easter-small (c .before .before .before .before .args .feast - 1) (omega (arith, c .before .before .before .before .pre)))
+add-day-within c =
+    let start = c .before .before .before .before in
+    omega (arith, sizes (c .before), from-easter-small (start .args .feast - 1) (omega (arith, start .pre)))
 
 sub-day-within : tie.Need-sub-day-within
 sub-day-within c = omega (arith, sizes (c .before))
@@ -47,14 +52,9 @@ pub hung-on-easter-spec : {M : Type 1} → statement M
 hung-on-easter-spec =
     tie.close
     (tie.spec
-    (λ c κs. search needs)
-    (λ c. search needs)
-    (λ c. search needs)
+    (λ c κs. search needs) (λ c. search needs) (λ c. search needs)
     returns
-    (λ c. search needs)
-    (λ c. search needs)
-    (λ c. search needs)
-    (λ c. search needs)
+    (λ c. search needs) (λ c. search needs) (λ c. search needs) (λ c. search needs)
     add-day-within
     sub-day-within
     (λ c κs. search needs)

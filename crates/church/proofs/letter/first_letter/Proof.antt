@@ -7,11 +7,13 @@ use Rattle.church.proofs.letter.first_letter.Statement.{statement}
 use Rattle.church.proofs.letter.first_letter.Tie as tie
 
 letter : (c : tie.Start)
-    → SundayLetter (c .args .named .style) (c .args .named .year) first (closed first (leap (c .args .named .style) (c .args .named .year)) (c .args .equinox))
+    → let named = c .args .named in
+    SundayLetter (named .style) (named .year) first (closed first (leap (named .style) (named .year)) (c .args .equinox))
 letter c = rw (c .pre) (sundays _ _ first)
 
 returns : tie.Need-returns
-returns c = rw (c .letter-after .ensures) (rw (sym (c .before .before .is-leap .ensures) ∙ c .before .if1 .taken) at (letter (c .before .before .before)))
+returns c =
+    rw (c .letter-after .ensures) (rw (sym (c .before .before .is-leap .ensures) ∙ c .before .if1 .taken) at (letter (c .before .before .before)))
 
 returns-2 : tie.Need-returns-2
 returns-2 c = rw (c .letter-after2 .ensures) (rw (sym (c .before .before .is-leap .ensures) ∙ c .before .if1 .left) at (letter (c .before .before .before)))
@@ -19,11 +21,4 @@ returns-2 c = rw (c .letter-after2 .ensures) (rw (sym (c .before .before .is-lea
 pub first-letter-spec : {M : Type 1} → statement M
 first-letter-spec =
     tie.close
-    (tie.spec
-    (λ c κs. search needs)
-    (λ c. search needs)
-    (λ c κs. search needs)
-    returns
-    (λ c. search needs)
-    (λ c κs. search needs)
-    returns-2)
+    (tie.spec (λ c κs. search needs) (λ c. search needs) (λ c κs. search needs) returns (λ c. search needs) (λ c κs. search needs) returns-2)

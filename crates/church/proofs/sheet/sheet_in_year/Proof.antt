@@ -1,10 +1,11 @@
 use mathlib.Core.Bool.{true}
-use mathlib.Core.Path.{_≡_, sym, _∙_}
+use mathlib.Core.Path.{_≡_, sym, _∙_, ap}
 use native.Mathlib.Omega.{arith}
 use borrow.Author.Needs.{needs}
 use Rattle.calendar.proofs.refusal.Laws.{passed-day, refused-by}
 use Rattle.church.proofs.easter.Laws.{easter-asked, easter-facts, easter-closed}
 use Rattle.church.specs.Easter.{march, easter, key, hasEaster}
+use Rattle.church.specs.declared.sheet.SheetAnswer.the-variants.{NoSheet}
 use Rattle.church.proofs.sheet.sheet_in_year.Statement.{statement}
 use Rattle.church.proofs.sheet.sheet_in_year.Tie as tie
 
@@ -14,7 +15,11 @@ is-day : (c : tie.After-day)
 is-day c = passed-day _ _ _ _ (sym (c .before .before .equinox .ensures) ∙ c .day .given .1)
 
 returns : tie.Need-returns
-returns c = refused-by _ _ _ _ (sym (c .before .before .before .equinox .ensures) ∙ c .before .refusal .given .1)
+returns c =
+    let named = c .before .before .before .before .args .named in
+    let e = sym (c .before .before .before .equinox .ensures) ∙ c .before .refusal .given .1 in
+    let none = refused-by (hasEaster (named .style) (named .year)) _ _ _ e in
+    rw (none .0) (ap NoSheet (none .1))
 
 easter-after-requires : tie.Need-easter-after-requires
 easter-after-requires c κs =
@@ -22,7 +27,8 @@ easter-after-requires c κs =
     rw (c .limit-of-year .ensures) (easter-asked _ _ _ (d .0) (d .1))
 
 easter-is : (c : tie.After-easter-after)
-    → c .easter-after .result ≡ easter (c .before .before .before .before .before .before .args .named .style) (c .before .before .before .before .before .before .args .named .year)
+    → let named = c .before .before .before .before .before .before .args .named in
+    c .easter-after .result ≡ easter (named .style) (named .year)
 easter-is c =
     rw (c .easter-after .ensures, c .before .limit-of-year .ensures, ← is-day (c .before .before .before) .1) (easter-closed _ _)
 
@@ -43,37 +49,32 @@ is-arabic-requires c κs = c .before .before .before .before .epact-number .ensu
 returns-2 : tie.Need-returns-2
 unfolding key
 returns-2 c =
-    let d = is-day (c .before .before .before .before .before .before .before .before .before) in (
-      d .0,
-      record {
-        its-leap = c .before .before .is-leap .ensures;
-        its-golden = c .before .golden-number .ensures;
-        its-epact = c .before .before .before .before .before .epact-number .ensures;
-        its-arabic = c .is-arabic .ensures;
-        its-first = c .before .before .before .before .first-letter .ensures;
-        its-second = c .before .before .before .second-letter .ensures;
-        its-limit = c .before .before .before .before .before .before .before .limit-of-year .ensures;
-        its-key = rw (easter-is (c .before .before .before .before .before .before), ← d .1);
-        its-easter = easter-is (c .before .before .before .before .before .before);
-      },
-    )
+    let d = is-day (c .before .before .before .before .before .before .before .before .before) in
+    rw (d .0)
+    (record {
+      its-leap = c .before .before .is-leap .ensures;
+      its-golden = c .before .golden-number .ensures;
+      its-epact = c .before .before .before .before .before .epact-number .ensures;
+      its-arabic = c .is-arabic .ensures;
+      its-first = c .before .before .before .before .first-letter .ensures;
+      its-second = c .before .before .before .second-letter .ensures;
+      its-limit = c .before .before .before .before .before .before .before .limit-of-year .ensures;
+      its-key = rw (easter-is (c .before .before .before .before .before .before), ← d .1);
+      its-easter = easter-is (c .before .before .before .before .before .before);
+    })
 
 pub sheet-in-year-spec : {M : Type 1} → statement M
 sheet-in-year-spec =
     tie.close
     (tie.spec
-    (λ c κs. search needs)
-    (λ c. search needs)
-    (λ c. search needs)
+    (λ c κs. search needs) (λ c. search needs) (λ c. search needs)
     returns
     (λ c κs. search needs)
     easter-after-requires
     sub-key
-    (λ c. search needs)
-    (λ c κs. search needs)
+    (λ c. search needs) (λ c κs. search needs)
     first-letter-requires
     second-letter-requires
-    (λ c κs. search needs)
-    (λ c κs. search needs)
+    (λ c κs. search needs) (λ c κs. search needs)
     is-arabic-requires
     returns-2)

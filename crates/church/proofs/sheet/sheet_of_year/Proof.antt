@@ -10,11 +10,4 @@ returns-2 c = rw (← c .before .before .before .style-of .ensures, c .before .r
 
 pub sheet-of-year-spec : {M : Type 1} → statement M
 sheet-of-year-spec =
-    tie.close
-    (tie.spec
-    (λ c κs. search needs)
-    (λ c. search needs)
-    (λ c κs. search needs)
-    (λ c. search needs)
-    returns
-    returns-2)
+    tie.close (tie.spec (λ c κs. search needs) (λ c. search needs) (λ c κs. search needs) (λ c. search needs) returns returns-2)

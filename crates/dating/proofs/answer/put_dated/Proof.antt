@@ -9,39 +9,29 @@ put-fields-requires c κs = (omega (arith, c .before .before .pre .0), c .before
 
 put-day-requires : tie.Need-put-day-requires
 put-day-requires c κs =
-    let a = c .before .before .before .before .before .before .args in
-    let head = fields-length (a .style) (a .day) (c .before .before .before .before .before .before .pre .1) .1 in
-    let l = put-length (c .before .before .before .put-fields .ensures) in
-    (omega (arith, c .before .before .before .before .before .before .pre .0, c .before .before .before .put-fields .ensures .behind), c .before .before .before .before .before .before .pre .1)
+    let fields = c .before .before .before in
+    let start = fields .before .before .before in
+    let head = fields-length _ _ (start .pre .1) .1 in
+    (omega (arith, start .pre .0, put-length (fields .put-fields .ensures), fields .put-fields .ensures .behind), start .pre .1)
 
 slice-write-buffer : tie.Need-slice-write-buffer
 slice-write-buffer c =
-    let a = c .before .before .before .before .before .before .before .before .before .args in
-    feed-room (a .style) (a .day) (c .before .before .before .before .before .before .put-fields .ensures) (c .before .before .put-day .ensures) (c .before .before .before .before .before .before .before .before .before .pre .1) (c .before .before .before .before .before .before .before .before .before .pre .0)
+    let day = c .before .before in
+    let fields = day .before .before .before .before in
+    let start = fields .before .before .before in
+    feed-room _ _ (fields .put-fields .ensures) (day .put-day .ensures) (start .pre .1) (start .pre .0)
 
 add-result : tie.Need-add-result
-add-result c =
-    let a = c .before .before .before .before .before .before .before .before .before .args in
-    let room = feed-room (a .style) (a .day) (c .before .before .before .before .before .before .put-fields .ensures) (c .before .before .put-day .ensures) (c .before .before .before .before .before .before .before .before .before .pre .1) (c .before .before .before .before .before .before .before .before .before .pre .0) in
-    omega arith
-
-same-length : tie.Need-same-length
-same-length c =
-    let a = c .before .before .before .before .before .before .before .before .before .args in
-    put-length (dated-put (a .style) (a .day) (c .before .before .before .before .before .before .put-fields .ensures) (c .before .before .put-day .ensures) .1 .1)
+add-result c = omega (arith, slice-write-buffer c)
 
 returns : tie.Need-returns
 returns c =
-    let a = c .before .before .before .before .before .before .before .before .before .args in
-    dated-put (a .style) (a .day) (c .before .before .before .before .before .before .put-fields .ensures) (c .before .before .put-day .ensures)
+    let day = c .before .before in
+    dated-put _ _ (day .before .before .before .before .put-fields .ensures) (day .put-day .ensures)
+
+same-length : tie.Need-same-length
+same-length c = put-length (returns c .1 .1)
 
 pub put-dated-spec : {M : Type 1} → statement M
 put-dated-spec =
-    tie.close
-    (tie.spec
-    put-fields-requires
-    put-day-requires
-    slice-write-buffer
-    add-result
-    same-length
-    returns)
+    tie.close (tie.spec put-fields-requires put-day-requires slice-write-buffer add-result same-length returns)

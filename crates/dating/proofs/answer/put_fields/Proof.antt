@@ -1,42 +1,48 @@
+use mathlib.Core.Path.{_≡_}
 use native.Mathlib.Omega.{arith}
 use borrow.Author.Needs.{needs}
 use Rattle.dating.proofs.answer.Laws.{its-weekday, fields-length}
 use Rattle.dating.proofs.writer.Laws.{put-on, put-length}
+use Rattle.calendar.specs.Weekday.{weekday}
 use Rattle.dating.proofs.answer.put_fields.Statement.{statement}
 use Rattle.dating.proofs.answer.put_fields.Tie as tie
 
 put-number-requires : tie.Need-put-number-requires
 put-number-requires c κs =
-    let a = c .before .before .before .before .args in
-    let few = fields-length (a .style) (a .day) (c .before .before .before .before .pre .1) .0 in
-    omega (arith, c .before .before .before .before .pre .0)
+    let start = c .before .before .before .before in
+    omega (arith, fields-length _ _ (start .pre .1) .0, start .pre .0)
 
 put-number-requires-2 : tie.Need-put-number-requires-2
 put-number-requires-2 c κs =
-    let a = c .before .before .before .before .before .before .before .before .args in
-    let few = fields-length (a .style) (a .day) (c .before .before .before .before .before .before .before .before .pre .1) .0 in
-    let l = put-length (c .before .before .before .put-number .ensures) in
-    omega (arith, c .before .before .before .before .before .before .before .before .pre .0, c .before .before .before .put-number .ensures .behind)
+    let zero = c .before .before .before in
+    let start = zero .before .before .before .before .before in
+    omega (arith, fields-length _ _ (start .pre .1) .0, start .pre .0, put-length (zero .put-number .ensures), zero .put-number .ensures .behind)
+
+-- the number that is put behind the day is the weekday's
+weekday-put : (c : tie.After-weekday-or-zero) → c .weekday-or-zero .result ≡ weekday (c .before .before .before .args .day)
+weekday-put c = rw (c .weekday-or-zero .ensures, c .before .weekday-in-style .ensures) (its-weekday _ _ (c .before .before .before .pre .1))
 
 put-number-requires-3 : tie.Need-put-number-requires-3
 put-number-requires-3 c κs =
-    let a = c .before .before .before .before .before .before .before .before .before .before .before .before .args in
-    let few = fields-length (a .style) (a .day) (c .before .before .before .before .before .before .before .before .before .before .before .before .pre .1) .0 in
-    let l = put-length (c .before .before .before .before .before .before .before .put-number .ensures) in
-    let k = put-length (c .before .before .before .put-number2 .ensures) in
-    rw (c .before .before .before .before .before .before .before .before .before .weekday-or-zero .ensures, c .before .before .before .before .before .before .before .before .before .before .weekday-in-style .ensures, its-weekday (a .style) (a .day) (c .before .before .before .before .before .before .before .before .before .before .before .before .pre .1)) (omega (arith, c .before .before .before .before .before .before .before .before .before .before .before .before .pre .0, c .before .before .before .before .before .before .before .put-number .ensures .behind, c .before .before .before .put-number2 .ensures .behind))
+    let day = c .before .before .before in
+    let zero = day .before .before .before .before in
+    let start = zero .before .before .before .before .before in
+    let few = fields-length _ _ (start .pre .1) .0 in
+    let same = put-length (put-on (zero .put-number .ensures) (day .put-number2 .ensures)) in
+    rw (weekday-put (zero .before .before)) (omega (arith, start .pre .0, zero .put-number .ensures .behind, day .put-number2 .ensures .behind))
 
 returns : tie.Need-returns
 returns c =
-    let a = c .before .before .before .before .before .before .before .before .before .before .before .before .before .before .before .args in
-    put-on (put-on (c .before .before .before .before .before .before .before .before .before .before .put-number .ensures) (c .before .before .before .before .before .before .put-number2 .ensures)) (rw (c .before .before .before .before .before .before .before .before .before .before .before .before .weekday-or-zero .ensures, c .before .before .before .before .before .before .before .before .before .before .before .before .before .weekday-in-style .ensures, its-weekday (a .style) (a .day) (c .before .before .before .before .before .before .before .before .before .before .before .before .before .before .before .pre .1)) at (c .before .before .put-number3 .ensures))
+    let day = c .before .before .before .before .before .before in
+    let zero = day .before .before .before .before in
+    put-on (put-on (zero .put-number .ensures) (day .put-number2 .ensures))
+    (rw (weekday-put (zero .before .before)) at (c .before .before .put-number3 .ensures))
 
 pub put-fields-spec : {M : Type 1} → statement M
 put-fields-spec =
     tie.close
     (tie.spec
-    (λ c κs. search needs)
-    (λ c κs. search needs)
+    (λ c κs. search needs) (λ c κs. search needs)
     put-number-requires
     put-number-requires-2
     (λ c. search needs)

@@ -28,7 +28,11 @@ returns-5 c =
 
 returns-6 : tie.Need-returns-6
 returns-6 c =
-    ending-told _ _ (c .before .before .before .before .behind-last .ensures) _ (rw (rest _ _) at (c .before .number-of .ensures)) _ (c .before .before .before .before .before .before .before .before .before .before .before .before .before .if1 .left) (c .before .before .before .before .before .before .before .before .before .before .before .if2 .left) (rw (c .before .before .before .before .before .before .before .style .given .1) at (c .before .before .before .before .before .before .before .before .before .style-of-letter .ensures)) (omega arith) (omega arith)
+    let year = c .before .before .before .before in
+    let style = year .before .before .before in
+    let letter = style .before .before in
+    ending-told _ _ (year .behind-last .ensures) _ (rw (rest _ _) at (c .before .number-of .ensures)) _ (letter .before .before .before .before .if1 .left)
+    (letter .before .before .if2 .left) (rw (style .style .given .1) at (letter .style-of-letter .ensures)) (omega arith) (omega arith)
 
 pub ending-of-spec : {M : Type 1} → statement M
 ending-of-spec =
@@ -37,19 +41,12 @@ ending-of-spec =
     returns
     (λ c. search needs)
     returns-2
-    (λ c. search needs)
-    (λ c. search needs)
-    (λ c κs. search needs)
-    (λ c. search needs)
-    (λ c. search needs)
+    (λ c. search needs) (λ c. search needs) (λ c κs. search needs) (λ c. search needs) (λ c. search needs)
     returns-3
     slice-aggregate-front
     (λ c κs. search needs)
     returns-4
-    (λ c. search needs)
-    (λ c. search needs)
-    (λ c. search needs)
-    (λ c κs. search needs)
+    (λ c. search needs) (λ c. search needs) (λ c. search needs) (λ c κs. search needs)
     returns-5
     (λ c. search needs)
     returns-6)

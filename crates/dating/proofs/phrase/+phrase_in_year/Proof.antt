@@ -49,8 +49,8 @@ callees t = (
 module _ (t : ℕ) where
   -- what a phrase with no wrapper tells
   plain : (c : lts.After-anchor-in-year (callees t) (at t) reads.Post)
-      → Told phrases (phraseDay (c .before .before .before .before .before .args .named)) (NoDay Form)
-      (c .before .before .before .before .before .args .phrase .now) (c .anchor-in-year .result)
+      → let a = c .before .before .before .before .before .args in
+      Told phrases (phraseDay (a .named)) (NoDay Form) (a .phrase .now) (c .anchor-in-year .result)
   plain c = plain-told _ _ _ (c .before .before .before .lead-of .ensures) (c .before .enum-told .given .1) _ (c .anchor-in-year .ensures)
 
   returns : lts.Need-returns (callees t) (at t) reads.Post
@@ -60,30 +60,30 @@ module _ (t : ℕ) where
   returns-2 c = rw (c .before .answer .given .1) at (plain (c .before .before .before))
 
   -- the wrapper that the phrase begins with
-  begins : (c : lts.After-known-told (callees t) (at t) reads.Post)
-      → Told leadings lead Plain (c .before .before .before .before .before .args .phrase .now) (Wrapped (c .before .wrapper .given .0 .0) (c .before .wrapper .given .0 .1 .0))
-  begins c = rw (c .before .wrapper .given .1) at (c .before .before .before .lead-of .ensures)
+  begins : (c : lts.After-wrapper (callees t) (at t) reads.Post) → let x = c .wrapper .given .0 in
+      Told leadings lead Plain (c .before .before .before .before .args .phrase .now) (Wrapped (x .0) (x .1 .0))
+  begins c = rw (c .wrapper .given .1) at (c .before .before .lead-of .ensures)
 
   -- what the rest behind it tells
   tells : (c : lts.After-phrase-in-year (callees t) (at t) reads.Post)
-      → Told phrases (phraseDay (c .before .before .before .before .before .before .before .args .named)) (NoDay Form)
-      (drop (c .before .before .before .wrapper .given .0 .1 .0) (c .before .before .before .before .before .before .before .args .phrase .now)) (c .phrase-in-year .result)
+      → let wrapper = c .before .before .before in let a = wrapper .before .before .before .before .args in
+      Told phrases (phraseDay (a .named)) (NoDay Form) (drop (wrapper .wrapper .given .0 .1 .0) (a .phrase .now)) (c .phrase-in-year .result)
   tells c = rw (rest _ _) at (c .phrase-in-year .ensures)
 
   returns-4 : lts.Need-returns-4 (callees t) (at t) reads.Post
   returns-4 c =
       let k = c .before .before .before .before in
       let day = c .before .before .behind .given .1 in
-      rw (c .act .ensures) (wrapped-told _ _ _ (begins (k .before .before)) _ _ (rw day at (tells k)))
+      rw (c .act .ensures) (wrapped-told _ _ _ (begins (k .before .before .before)) _ _ (rw day at (tells k)))
 
   returns-3 : lts.Need-returns-3 (callees t) (at t) reads.Post
   returns-3 c =
       let k = c .before .before in
       let refusal = c .enum-told3 .given .1 in
-      rw refusal (wrapped-told _ _ _ (begins (k .before .before)) _ _ (rw refusal at (tells k)))
+      rw (← refusal) at (wrapped-told _ _ _ (begins (k .before .before .before)) _ _ (rw refusal at (tells k)))
 
   fits : lts.Need-sub-phrase-in-year (callees t) (at t) reads.Post
-  fits c = shorter _ _ _ (begins c) .1
+  fits c = shorter _ _ _ (begins (c .before)) .1
 
   phrase-in-year-requires : lts.Need-phrase-in-year-requires (callees t) (at t) reads.Post
   phrase-in-year-requires c κs =
@@ -92,7 +92,7 @@ module _ (t : ℕ) where
       let now : length s ≡ t = c .before .before .before .before .before .before .pre .0 in
       let behind : length (drop n s) ≡ length s - n = length-drop n s in
       let fits = c .before .before .before .before .before .before .pre .1 in
-      let less = shorter _ _ _ (begins (c .before)) in
+      let less = shorter _ _ _ (begins (c .before .before)) in
       (rw (rest n s) (omega arith), rw (rest n s) (omega arith))
 
   act-requires : lts.Need-act-requires (callees t) (at t) reads.Post
@@ -102,20 +102,14 @@ pub +phrase-in-year-spec : {M : Type 1} → statement M
 +phrase-in-year-spec =
     close μ-phrase-in-year
     λ t. lts.spec (callees t) (at t) reads.Post
-    (λ c κs. search needs)
-    (λ c. search needs)
-    (λ c. search needs)
-    (λ c κs. search needs)
-    (λ c. search needs)
-    (λ c. search needs)
+    (λ c κs. search needs) (λ c. search needs) (λ c. search needs) (λ c κs. search needs) (λ c. search needs) (λ c. search needs)
     (returns t)
     (returns-2 t)
     (fits t)
     (fits t)
     (λ c. search needs)
     (phrase-in-year-requires t)
-    (λ c. search needs)
-    (λ c. search needs)
+    (λ c. search needs) (λ c. search needs)
     (returns-3 t)
     (act-requires t)
     (returns-4 t)

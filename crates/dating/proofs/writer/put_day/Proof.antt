@@ -1,34 +1,37 @@
-use mathlib.Core.Path.{sym, _∙_}
+use mathlib.Core.Path.{_≡_}
 use native.Mathlib.Omega.{arith}
 use borrow.Author.Needs.{needs}
-use Rattle.words.proofs.text.Laws.{no-false}
+use Rattle.calendar.proofs.date.Laws.{date-day}
 use Rattle.dating.proofs.writer.Laws.{twelve-bytes, day-put}
+use Rattle.calendar.specs.Date.{dayInYear}
+use Rattle.calendar.specs.Year.{named}
+use Rattle.calendar.specs.declared.date.DateAnswer.the-variants.{NoDate}
+use Rattle.calendar.specs.declared.span.DayAnswer.the-variants.{Day}
 use Rattle.dating.proofs.writer.put_day.Statement.{statement}
 use Rattle.dating.proofs.writer.put_day.Tie as tie
 
+its-date : (c : tie.After-known-told)
+    → let a = c .before .before .before .before .before .args in
+    let on = c .before .year .given .0 in
+    dayInYear (named (a .style) (on .0)) (on .1 .0) (on .1 .1 .0) ≡ Day (a .day)
+its-date c =
+    let start = c .before .before .before .before .before in
+    date-day _ _ _ (start .pre .1) (rw (c .before .year .given .1) at (c .before .before .before .date-in-style .ensures))
+
 put-date-requires : tie.Need-put-date-requires
 put-date-requires c κs =
-    let a = c .before .before .before .before .before .before .args in
-    let few = twelve-bytes (a .style) (a .day) (c .before .before .year .given .0 .0) (c .before .before .year .given .0 .1 .0) (c .before .before .year .given .0 .1 .1 .0) (rw (c .before .before .year .given .1) at (c .before .before .before .before .date-in-style .ensures)) in
+    let few = twelve-bytes _ _ _ _ _ (its-date (c .before)) in
     omega (arith, c .before .before .before .before .before .before .pre .0)
 
 returns : tie.Need-returns
-returns c =
-    let a = c .before .before .before .before .before .before .before .before .before .args in
-    day-put (a .style) (a .day) (c .before .before .before .before .before .year .given .0 .0) (c .before .before .before .before .before .year .given .0 .1 .0) (c .before .before .before .before .before .year .given .0 .1 .1 .0) (rw (c .before .before .before .before .before .year .given .1) at (c .before .before .before .before .before .before .before .date-in-style .ensures)) (c .before .before .put-date .ensures)
+returns c = day-put _ _ _ _ _ (its-date (c .before .before .before .before)) (c .before .before .put-date .ensures)
 
 returns-2 : tie.Need-returns-2
 returns-2 c =
-    no-false (sym (c .before .before .before .before .pre .1) ∙ (rw (c .enum-told .given .1) at (c .before .before .date-in-style .ensures)) .0)
+    let start = c .before .before .before .before in
+    let none = rw (c .enum-told .given .1) at (c .before .before .date-in-style .ensures) in
+    absurd (date-day (start .args .style) (start .args .day) (NoDate _) (start .pre .1) none)
 
 pub put-day-spec : {M : Type 1} → statement M
 put-day-spec =
-    tie.close
-    (tie.spec
-    (λ c κs. search needs)
-    (λ c. search needs)
-    put-date-requires
-    (λ c. search needs)
-    (λ c. search needs)
-    returns
-    returns-2)
+    tie.close (tie.spec (λ c κs. search needs) (λ c. search needs) put-date-requires (λ c. search needs) (λ c. search needs) returns returns-2)

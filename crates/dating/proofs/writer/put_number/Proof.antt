@@ -11,7 +11,9 @@ use Rattle.dating.proofs.writer.put_number.Statement.{statement}
 use Rattle.dating.proofs.writer.put_number.Tie as tie
 
 abbrev Inv-loop : tie.InvT-loop
-Inv-loop buffer₀ at number behind end i₀ rest₀ buffer i rest = (rest ≤ number) × (i ≡ at + length (numeral rest)) × (i < length buffer) × (length buffer ≡ length buffer₀) × (sets buffer at (numeral rest) ≡ sets buffer₀ at (numeral number))
+Inv-loop buffer₀ at number behind end i₀ rest₀ buffer i rest =
+    (rest ≤ number) × (i ≡ at + length (numeral rest)) × (i < length buffer)
+    × (length buffer ≡ length buffer₀) × (sets buffer at (numeral rest) ≡ sets buffer₀ at (numeral number))
 
 abbrev μ-loop : tie.MeasureT-loop
 μ-loop buffer₀ at number behind end i₀ rest₀ buffer i rest = rest
@@ -19,27 +21,22 @@ abbrev μ-loop : tie.MeasureT-loop
 add-end : tie.Need-add-end Inv-loop μ-loop
 add-end c =
     let a = c .before .before .args in
-    let l = field-length (a .number) (a .behind) in
-    omega (arith, c .digit-count .ensures, c .before .before .pre)
+    omega (arith, field-length (a .number) (a .behind), c .digit-count .ensures, c .before .before .pre)
 
 slice-write-buffer : tie.Need-slice-write-buffer Inv-loop μ-loop
 slice-write-buffer c =
     let a = c .before .before .args in
-    let l = field-length (a .number) (a .behind) in
-    omega (arith, c .digit-count .ensures, c .before .before .pre)
+    omega (arith, field-length (a .number) (a .behind), c .digit-count .ensures, c .before .before .pre)
 
 loop-holds : tie.Need-loop-holds Inv-loop μ-loop
 loop-holds c =
     let a = c .before .before .args in
-    let s = a .buffer .now in
-    let end = a .at + c .digit-count .result in
+    let same = length-set (a .buffer .now) (a .at + c .digit-count .result) (a .behind) in
     let l = field-length (a .number) (a .behind) in
-    (omega arith, omega (arith, c .digit-count .ensures), rw (length-set s end (a .behind)) (omega (arith, c .digit-count .ensures, c .before .before .pre)), refl, refl)
+    (omega arith, omega (arith, c .digit-count .ensures), rw same (omega (arith, c .digit-count .ensures, c .before .before .pre)), refl, refl)
 
 sub-i : tie.Need-sub-i Inv-loop μ-loop
-sub-i c =
-    let l = numeral-length (c .before .loop .rest) .0 in
-    omega (arith, c .before .loop .inv)
+sub-i c = omega (arith, numeral-length (c .before .loop .rest) .0, c .before .loop .inv)
 
 slice-write-buffer-2 : tie.Need-slice-write-buffer-2 Inv-loop μ-loop
 slice-write-buffer-2 c = omega (arith, c .before .loop .inv)
@@ -70,8 +67,7 @@ slice-write-buffer-3 c = omega (arith, c .before .loop .inv)
 add-result : tie.Need-add-result Inv-loop μ-loop
 add-result c =
     let a = c .before .before .before .before .args in
-    let l = field-length (a .number) (a .behind) in
-    omega (arith, c .before .before .digit-count .ensures, c .before .before .before .before .pre)
+    omega (arith, field-length (a .number) (a .behind), c .before .before .digit-count .ensures, c .before .before .before .before .pre)
 
 same-length : tie.Need-same-length Inv-loop μ-loop
 same-length c =
@@ -102,13 +98,11 @@ put-number-spec =
     slice-write-buffer
     loop-holds
     sub-i
-    (λ c. search needs)
-    (λ c. search needs)
+    (λ c. search needs) (λ c. search needs)
     slice-write-buffer-2
     loop-less
     loop-again
-    (λ c. search needs)
-    (λ c. search needs)
+    (λ c. search needs) (λ c. search needs)
     slice-write-buffer-3
     add-result
     same-length

@@ -5,7 +5,8 @@ use Rattle.dating.proofs.writer.write_date.Tie as tie
 
 returns : tie.Need-returns
 returns c =
-    rw (← c .before .before .before .before .before .before .before .style-of .ensures, c .before .before .before .before .before .known .given .1) (c .before .before .write-in-style .ensures)
+    let known = c .before .before .before .before .before in
+    rw (← known .before .before .style-of .ensures, known .known .given .1) (c .before .before .write-in-style .ensures)
 
 returns-2 : tie.Need-returns-2
 returns-2 c = rw (← c .before .before .before .style-of .ensures, c .before .refusal .given .1) (refl, refl)
@@ -13,11 +14,4 @@ returns-2 c = rw (← c .before .before .before .style-of .ensures, c .before .r
 pub write-date-spec : {M : Type 1} → statement M
 write-date-spec =
     tie.close
-    (tie.spec
-    (λ c κs. search needs)
-    (λ c. search needs)
-    (λ c κs. search needs)
-    (λ c. search needs)
-    (λ c. search needs)
-    returns
-    returns-2)
+    (tie.spec (λ c κs. search needs) (λ c. search needs) (λ c κs. search needs) (λ c. search needs) (λ c. search needs) returns returns-2)

@@ -13,28 +13,21 @@ returns c =
 
 put-day-requires : tie.Need-put-day-requires
 put-day-requires c κs =
-    let a = c .before .before .before .before .before .before .args in
-    (omega (arith, c .before .before .before .before .if1 .left), answered-span (a .style) (a .day) _ (sym (c .before .before .before .day-within .ensures) ∙ c .before .enum-told .given .1) .0)
+    let within = c .before .before .before in
+    (omega (arith, within .before .if1 .left), answered-span _ _ _ (sym (within .day-within .ensures) ∙ c .before .enum-told .given .1) .0)
 
 returns-2 : tie.Need-returns-2
 returns-2 c =
-    let a = c .before .before .before .before .before .before .before .before .before .args in
-    written (a .style) (a .day) (a .buffer .now) (c .before .before .before .before .before .before .before .if1 .left) _ _ (answered-span (a .style) (a .day) _ (sym (c .before .before .before .before .before .before .day-within .ensures) ∙ c .before .before .before .before .enum-told .given .1) .0) (c .before .before .put-day .ensures)
+    let p = c .before .before in
+    written _ _ _ (p .before .before .before .before .before .if1 .left) _ _ (put-day-requires (p .before) (p .put-day .lifetimes) .1) (p .put-day .ensures)
 
 returns-3 : tie.Need-returns-3
 returns-3 c =
-    let a = c .before .before .before .before .before .before .args in
-    outside (a .style) (a .day) (a .buffer .now) (c .before .before .before .before .if1 .left) _ (sym (c .before .before .before .day-within .ensures) ∙ c .before .refusal .given .1)
+    let within = c .before .before .before in
+    let buffer = within .before .before .before .args .buffer .now in
+    outside _ _ buffer (within .before .if1 .left) _ (sym (within .day-within .ensures) ∙ c .before .refusal .given .1)
 
 pub write-in-style-spec : {M : Type 1} → statement M
 write-in-style-spec =
     tie.close
-    (tie.spec
-    returns
-    (λ c κs. search needs)
-    (λ c. search needs)
-    put-day-requires
-    (λ c. search needs)
-    (λ c. search needs)
-    returns-2
-    returns-3)
+    (tie.spec returns (λ c κs. search needs) (λ c. search needs) put-day-requires (λ c. search needs) (λ c. search needs) returns-2 returns-3)
