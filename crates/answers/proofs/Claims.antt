@@ -36,7 +36,7 @@ block-step k b m n o p r h =
 pub last-step : (k o p : List ℕ) (n : ℕ) → AnswersLast k o p n → Answers (lastLine k) (take n p)
 last-step k o p n h = written-text h
 
--- An input has one output.
+-- An input has no two outputs.
 pub one-output : (s t u : List ℕ) → IsOutput s t → IsOutput s u → t ≡ u
 one-output s t u h k = lines.one-output (linesOf s) t u h k
 

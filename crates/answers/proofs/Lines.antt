@@ -89,7 +89,8 @@ answers-append (l ∷ ls) ms t u (a, (v, (told, (rest, e)))) k =
 pub one-answered : (l t : List ℕ) → IsAnswer l t → Answers (l ∷ []) t
 one-answered l t told = (t, ([], (told, (refl, sym (append-nil t)))))
 
-pub answers-split : (ls ms : List (List ℕ)) (t : List ℕ) → Answers (ls ++ ms) t → (a : List ℕ) × ((u : List ℕ) × (Answers ls a × (Answers ms u × (t ≡ a ++ u))))
+pub answers-split : (ls ms : List (List ℕ)) (t : List ℕ) → Answers (ls ++ ms) t
+    → (a : List ℕ) × ((u : List ℕ) × (Answers ls a × (Answers ms u × (t ≡ a ++ u))))
 answers-split [] ms t h = ([], (t, (refl, (h, refl))))
 answers-split (l ∷ ls) ms t (x, (v, (told, (rest, e)))) =
     let (a, (u, (first, (second, f)))) = answers-split ls ms v rest in

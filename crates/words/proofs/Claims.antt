@@ -29,15 +29,15 @@ year-digits s = (
   λ k. subst YearDigits (k .1 .1) (numeral-digits (k .0) (k .1 .0 .0) (k .1 .0 .1)),
 )
 
--- Bytes are the numeral of one number.
+-- Bytes are the numeral of at most one number.
 pub one-number : (high : ℕ) (s : List ℕ) (r q : ℕ) → Told (numerals high) (λ n. n) 0 s r → Told (numerals high) (λ n. n) 0 s q → r ≡ q
 one-number high s r q h k = one-told (one-numeral high) r q h k
 
--- Bytes are the word of one feast.
+-- Bytes are the word of at most one feast.
 pub one-feast : (s : List ℕ) (r q : ℕ) → Told feastWords (λ n. n) 0 s r → Told feastWords (λ n. n) 0 s q → r ≡ q
 one-feast s r q h k = one-told word-laws.one-feast r q h k
 
--- A phrase begins with the words of one wrapper.
+-- A phrase begins with the words of at most one wrapper.
 pub one-lead : (s : List ℕ) (r q : Lead) → Told leadings lead Plain s r → Told leadings lead Plain s q → r ≡ q
 one-lead s r q h k = one-told one-leading r q h k
 

@@ -18,7 +18,8 @@ one-of (b ∷ bs) t zero = is-true b (T-both b (every bs) t .0)
 one-of (b ∷ bs) t (suc i) = one-of bs (T-both b (every bs) t .1) i
 
 -- the numbers go from 1 to n
-pub tested : (tests : ℕ → List Bool) (n : ℕ) → T (each (λ k. every (tests (suc k))) n) → (k : ℕ) → 1 ≤ k → k ≤ n → (i : ℕ) → getD (tests k) i true ≡ true
+pub tested : (tests : ℕ → List Bool) (n : ℕ) → T (each (λ k. every (tests (suc k))) n)
+    → (k : ℕ) → 1 ≤ k → k ≤ n → (i : ℕ) → getD (tests k) i true ≡ true
 tested tests n t k low high i =
     let number : suc (k - 1) ≡ k = omega arith in
     rw number at (one-of (tests (suc (k - 1))) (below (λ k. every (tests (suc k))) n t (k - 1) (omega arith)) i)

@@ -10,4 +10,6 @@ abbrev μ-loop : tie.MeasureT-loop
 μ-loop line₀ reading₀ counter₀ line reading counter = 18446744073709551615 - counter
 
 pub main-spec : {M : Type 1} → statement M
-main-spec = tie.close (tie.spec Inv-loop μ-loop (λ c. tt) (λ c. search needs) (λ c. search needs) (λ c. tt) (λ c κs. search needs) (λ c. search needs) (λ c. search needs) (λ c. tt) (λ c. tt))
+main-spec =
+    tie.close (tie.spec Inv-loop μ-loop
+    (λ c. tt) (λ c. search needs) (λ c. search needs) (λ c. tt) (λ c κs. search needs) (λ c. search needs) (λ c. search needs) (λ c. tt) (λ c. tt))

@@ -11,4 +11,6 @@ abbrev μ-loop : tie.MeasureT-loop
 μ-loop line₀ block next₀ i₀ line next i = length block - i
 
 pub with-block-spec : {M : Type 1} → statement M
-with-block-spec = tie.close (tie.spec Inv-loop μ-loop (λ c. tt) (λ c. search needs) (λ c κs. search needs) (λ c. search needs) (λ c. search needs) (λ c. tt) (λ c. tt))
+with-block-spec =
+    tie.close (tie.spec Inv-loop μ-loop
+    (λ c. tt) (λ c. search needs) (λ c κs. search needs) (λ c. search needs) (λ c. search needs) (λ c. tt) (λ c. tt))

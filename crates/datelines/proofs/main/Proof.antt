@@ -26,12 +26,11 @@ loop-holds c = (omega arith, refl, refl)
 
 slice-aggregate-put : tie.Need-slice-aggregate-put Inv-loop μ-loop
 slice-aggregate-put c =
-    sym (written-length (c .before .answer-last .ensures) .0 ∙ c .before .before .before .before .before .before .before .before .before .before .loop .inv .2)
+    let l = c .before .before .before .before .before .before .before .before .before .before .loop in
+    sym (written-length (c .before .answer-last .ensures) .0 ∙ l .inv .2)
 
 put-requires : tie.Need-put-requires Inv-loop μ-loop
-put-requires c κs =
-    let few = written-length (c .before .answer-last .ensures) in
-    omega (arith, few, c .before .before .before .before .before .before .before .before .before .before .loop .inv .2)
+put-requires c κs = omega (arith, written-length (c .before .answer-last .ensures), slice-aggregate-put c)
 
 slice-aggregate-count : tie.Need-slice-aggregate-count Inv-loop μ-loop
 slice-aggregate-count c = sym (refilled (c .before .before .before))
@@ -43,18 +42,17 @@ add-filled c =
 
 slice-aggregate-put-2 : tie.Need-slice-aggregate-put-2 Inv-loop μ-loop
 slice-aggregate-put-2 c =
-    sym (written-length (c .before .answer-block .ensures .output) .0 ∙ c .before .before .before .before .before .before .before .before .before .before .before .before .loop .inv .2)
+    let l = c .before .before .before .before .before .before .before .before .before .before .before .before .loop in
+    sym (written-length (c .before .answer-block .ensures .output) .0 ∙ l .inv .2)
 
 put-requires-2 : tie.Need-put-requires-2 Inv-loop μ-loop
-put-requires-2 c κs =
-    let few = written-length (c .before .answer-block .ensures .output) in
-    omega (arith, few, c .before .before .before .before .before .before .before .before .before .before .before .before .loop .inv .2)
+put-requires-2 c κs = omega (arith, written-length (c .before .answer-block .ensures .output), slice-aggregate-put-2 c)
 
 loop-again : tie.Need-loop-again Inv-loop μ-loop
 loop-again c =
     let same = refilled (c .before .before .before .before .before .before .before .before .before .before) in
     let held = kept-length (c .before .before .before .answer-block .ensures) (omega (arith, same)) in
-    (held .1, held .0 ∙ same, written-length (c .before .before .before .answer-block .ensures .output) .0 ∙ c .before .before .before .before .before .before .before .before .before .before .before .before .before .before .loop .inv .2)
+    (held .1, held .0 ∙ same, sym (slice-aggregate-put-2 (c .before .before)))
 
 pub main-spec : {M : Type 1} → statement M
 main-spec =
@@ -63,14 +61,8 @@ main-spec =
     Inv-loop
     μ-loop
     loop-holds
-    (λ c. search needs)
-    (λ c. search needs)
-    (λ c. search needs)
-    (λ c κs. search needs)
-    (λ c. search needs)
-    (λ c κs. search needs)
-    (λ c. search needs)
-    (λ c κs. search needs)
+    (λ c. search needs) (λ c. search needs) (λ c. search needs) (λ c κs. search needs) (λ c. search needs) (λ c κs. search needs)
+    (λ c. search needs) (λ c κs. search needs)
     slice-aggregate-put
     put-requires
     (λ c. search needs)
@@ -80,8 +72,6 @@ main-spec =
     (λ c κs. search needs)
     slice-aggregate-put-2
     put-requires-2
-    (λ c. search needs)
-    (λ c. search needs)
-    (λ c. search needs)
+    (λ c. search needs) (λ c. search needs) (λ c. search needs)
     loop-again
     (λ c. search needs))

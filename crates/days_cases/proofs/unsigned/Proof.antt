@@ -15,7 +15,7 @@ not-negative (pos n) e = tt
 not-negative (negsuc n) e = absurd (true≢false e)
 
 cast-result : tie.Need-cast-result
-cast-result c = (not-negative (toZ w32 (ofZ w32 (c .before .args .n))) (c .if1 .left), fits-natAbs {w = w32} {w′ = w64} tt (sfits-toZ (fits-ofZ (c .before .fits .n))))
+cast-result c = (not-negative (toZ w32 (ofZ w32 (c .before .args .n))) (c .if1 .left), fits-natAbs {w′ = w64} tt (sfits-toZ (fits-ofZ (c .before .fits .n))))
 
 pub unsigned-spec : {M : Type 1} → statement M
 unsigned-spec = tie.close (tie.spec (λ c. search needs) cast-result (λ c. search needs))

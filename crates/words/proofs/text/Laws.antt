@@ -121,7 +121,8 @@ unfolding has
 has-none c s = rw (drop-length s)
 
 -- one step back over a byte that is not c, and where the walk back stops
-pub has-back : (c : ℕ) (s : List ℕ) (i : ℕ) → 0 < i → i ≤ length s → (getD s (i - 1) 0 ≡ c → ⊥) → has c (drop i s) ≡ false → has c (drop (i - 1) s) ≡ false
+pub has-back : (c : ℕ) (s : List ℕ) (i : ℕ) → 0 < i → i ≤ length s → (getD s (i - 1) 0 ≡ c → ⊥)
+    → has c (drop i s) ≡ false → has c (drop (i - 1) s) ≡ false
 unfolding has
 has-back c s i low high n h =
     let e : suc (i - 1) ≡ i = omega arith in

@@ -139,7 +139,8 @@ module _ (s : List ℕ) {r : ℕ} (g : Guess 17 (Begins s) r) where
         (ap (Wrapped w) (count ∙ there .1))
 
 -- no wrapper's words begin another's, so what stands behind them is told too
-pub one-wrapper : (v w : Wrapper) (a b : List ℕ) → GoodWrapper v → GoodWrapper w → wrapperWords v ++ a ≡ wrapperWords w ++ b → (v ≡ w) × (a ≡ b)
+pub one-wrapper : (v w : Wrapper) (a b : List ℕ) → GoodWrapper v → GoodWrapper w
+    → wrapperWords v ++ a ≡ wrapperWords w ++ b → (v ≡ w) × (a ≡ b)
 one-wrapper v w a b gv gw e =
     let s = wrapperWords w ++ b in
     let same = known s (guess s) v a gv e .1 ∙ sym (known s (guess s) w b gw refl .1) in

@@ -34,13 +34,11 @@ pub answer-filled-spec : {M : Type 1} → statement M
 answer-filled-spec =
     tie.close
     (tie.spec
-    (λ c κs. search needs)
-    (λ c. search needs)
+    (λ c κs. search needs) (λ c. search needs)
     slice-aggregate-answer-ended
     answer-ended-requires
     sub-least
     (λ c κs. search needs)
     move-to-start-requires
-    (λ c. search needs)
-    (λ c. search needs)
+    (λ c. search needs) (λ c. search needs)
     returns)

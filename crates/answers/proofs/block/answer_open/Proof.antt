@@ -18,11 +18,4 @@ returns-2 c =
 
 pub answer-open-spec : {M : Type 1} → statement M
 answer-open-spec =
-    tie.close
-    (tie.spec
-    (λ c κs. search needs)
-    returns
-    slice-aggregate-put-answer
-    (λ c κs. search needs)
-    (λ c. search needs)
-    returns-2)
+    tie.close (tie.spec (λ c κs. search needs) returns slice-aggregate-put-answer (λ c κs. search needs) (λ c. search needs) returns-2)

@@ -51,16 +51,4 @@ returns c =
 
 pub move-to-start-spec : {M : Type 1} → statement M
 move-to-start-spec =
-    tie.close
-    (tie.spec
-    Inv-loop
-    μ-loop
-    loop-holds
-    add-bytes
-    slice-read-bytes
-    slice-write-bytes
-    add-i
-    loop-less
-    loop-again
-    same-length
-    returns)
+    tie.close (tie.spec Inv-loop μ-loop loop-holds add-bytes slice-read-bytes slice-write-bytes add-i loop-less loop-again same-length returns)

@@ -11,4 +11,6 @@ abbrev μ-loop : tie.MeasureT-loop
 μ-loop out₀ at text end₀ i₀ out end i = length text - i
 
 pub put-text-spec : {M : Type 1} → statement M
-put-text-spec = tie.close (tie.spec Inv-loop μ-loop (λ c. tt) (λ c. search needs) (λ c κs. search needs) (λ c. search needs) (λ c. search needs) (λ c. tt) (λ c. tt))
+put-text-spec =
+    tie.close (tie.spec Inv-loop μ-loop
+    (λ c. tt) (λ c. search needs) (λ c κs. search needs) (λ c. search needs) (λ c. search needs) (λ c. tt) (λ c. tt))

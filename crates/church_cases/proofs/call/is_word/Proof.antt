@@ -11,4 +11,6 @@ abbrev μ-loop : tie.MeasureT-loop
 μ-loop field word i₀ i = length field - i
 
 pub is-word-spec : {M : Type 1} → statement M
-is-word-spec = tie.close (tie.spec Inv-loop μ-loop (λ c. tt) (λ c. tt) (λ c. search needs) (λ c. search needs) (λ c. tt) (λ c. search needs) (λ c. search needs) (λ c. tt) (λ c. tt))
+is-word-spec =
+    tie.close (tie.spec Inv-loop μ-loop
+    (λ c. tt) (λ c. tt) (λ c. search needs) (λ c. search needs) (λ c. tt) (λ c. search needs) (λ c. search needs) (λ c. tt) (λ c. tt))

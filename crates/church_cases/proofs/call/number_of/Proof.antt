@@ -11,4 +11,6 @@ abbrev μ-loop : tie.MeasureT-loop
 μ-loop field read₀ i₀ read i = length field - i
 
 pub number-of-spec : {M : Type 1} → statement M
-number-of-spec = tie.close (tie.spec Inv-loop μ-loop (λ c. tt) (λ c. tt) (λ c. tt) (λ c. search needs) (λ c κs. search needs) (λ c. search needs) (λ c. search needs) (λ c. tt) (λ c. tt))
+number-of-spec =
+    tie.close (tie.spec Inv-loop μ-loop
+    (λ c. tt) (λ c. tt) (λ c. tt) (λ c. search needs) (λ c κs. search needs) (λ c. search needs) (λ c. search needs) (λ c. tt) (λ c. tt))

@@ -62,8 +62,7 @@ number-of-spec =
     (λ c. search needs)
     returns-3
     returns-4
-    (λ c. search needs)
-    (λ c. search needs)
+    (λ c. search needs) (λ c. search needs)
     loop-holds
     (λ c. search needs)
     returns-5
@@ -71,8 +70,7 @@ number-of-spec =
     mul-n
     (λ c. search needs)
     add-n
-    (λ c. search needs)
-    (λ c. search needs)
+    (λ c. search needs) (λ c. search needs)
     loop-again
     returns-7
     returns-8)

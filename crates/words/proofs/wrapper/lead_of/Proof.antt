@@ -22,11 +22,4 @@ returns-3 c =
 
 pub lead-of-spec : {M : Type 1} → statement M
 lead-of-spec =
-    tie.close
-    (tie.spec
-    (λ c κs. search needs)
-    returns
-    (λ c κs. search needs)
-    wrapper-taken-requires
-    returns-2
-    returns-3)
+    tie.close (tie.spec (λ c κs. search needs) returns (λ c κs. search needs) wrapper-taken-requires returns-2 returns-3)
