@@ -7,6 +7,7 @@ PREFIX = /usr/local
 check: kit
 	rt fmt --check
 	tests/feasts
+	tests/edits
 	tests/second
 	tests/c/run
 	tests/program
