@@ -1,6 +1,8 @@
+use mathlib.Core.Path.{_∙_, ap}
 use native.Mathlib.Omega.{arith}
 use borrow.Author.Needs.{needs}
 use Rattle.calendar.proofs.span.Laws.{span-small}
+use Rattle.calendar.specs.Span.{within}
 use Rattle.dating.proofs.act.act.Statement.{statement}
 use Rattle.dating.proofs.act.act.Tie as tie
 
@@ -18,7 +20,8 @@ returns-3 c = rw (c .before .enum-told3 .given .1) (c .day-within3 .ensures)
 
 returns-4 : tie.Need-returns-4
 returns-4 c =
-    rw (c .before .before .before .wrapper .given .1, ← c .before .first-weekday .ensures) (c .day-within4 .ensures)
+    let style = c .before .before .before .before .before .args .style in
+    rw (c .before .before .before .wrapper .given .1) (c .day-within4 .ensures ∙ ap (within style) (c .before .first-weekday .ensures))
 
 pub act-spec : {M : Type 1} → statement M
 act-spec =
