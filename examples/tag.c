@@ -28,7 +28,7 @@ static void append(struct line *line, int byte)
 {
     if (line->length == line->room) {
         line->room = line->room * 2 + 128;
-        line->bytes = realloc(line->bytes, line->room);
+        line->bytes = (uint8_t *)realloc(line->bytes, line->room);
         if (line->bytes == NULL)
             stop("no memory for a line");
     }

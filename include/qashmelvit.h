@@ -3,14 +3,14 @@
  * Gregorian style. Each call has one answer for every input, keeps nothing between calls, so that threads may call at once, and changes no
  * byte that it is lent. The archive libqashmelvit.a is for x86-64, and is linked by
  *
- *     cc tag.c $(pkg-config --cflags --libs qashmelvit)
+ *     cc -o tag tag.c $(pkg-config --cflags --libs qashmelvit)
  *
  * A day is a Julian Day Number. A style is a number, and serves the days of its span:
  *
  *     1  J, Julian      1 January 1 (1721424) to 31 December 9999 (5373557)
  *     2  G, Gregorian   15 October 1582 (2299161) to 31 December 9999 (5373484)
  *
- * A call that answers a day answers the day or the number of a refusal, the lowest that holds. No day is below 1721424, so that a
+ * A call that answers a day answers the day or the number of a refusal, the lowest that holds. No day is below QV_FIRST_DAY, so that a
  * number below that is a refusal:
  *
  *     const uint8_t *line = (const uint8_t *)text;
@@ -24,7 +24,7 @@
  * A dating line is lower-case ASCII but for the style letter, has one space between its parts and none at its ends, and no carriage return,
  * line feed or zero byte behind it:
  *
- *     line      phrase year style         such as "eve of easter 1225 J"
+ *     line      phrase year style
  *     phrase    a feast word, or a date, or a wrapper before a phrase
  *     wrapper   eve of | morrow of | octave of | weekday after | weekday before
  *     weekday   mon | tue | wed | thu | fri | sat | sun
@@ -52,6 +52,8 @@
  *     12 parasceve     -2    24 circumcision 1.1    36 assumption   15.8    48 advent
  *
  * Advent is the Sunday from 27 November to 3 December.
+ *
+ * The indented lines above each call are examples, expressions that hold.
  */
 #ifndef QASHMELVIT_H
 #define QASHMELVIT_H
@@ -80,8 +82,13 @@ extern "C" {
 
 /*
  * The day that the dating line names, or the refusal: QV_LENGTH, QV_FORM, QV_YEAR, QV_DATE or QV_SPAN, in this order.
- * The line is the length bytes from line on; a length of 0 goes with any pointer, NULL too. No byte is changed.
- * Example: "tue after quasimodo 1587 G", of 26 bytes, answers 2300796; "29.2 1900 G" answers 5.
+ * The line is the length bytes from line on, all of which must be readable; a length of 0 goes with any pointer, NULL too. No byte is
+ * changed.
+ *
+ *     qv_line((const uint8_t *)"tue after quasimodo 1587 G", 26) == 2300796
+ *     qv_line((const uint8_t *)"tue after quasimodo 1587 J", 26) == 2300824
+ *     qv_line((const uint8_t *)"29.2 1900 G", 11) == QV_DATE
+ *     qv_line(NULL, 0) == QV_LENGTH
  */
 uint32_t qv_line(const uint8_t *line, size_t length);
 
@@ -89,8 +96,9 @@ uint32_t qv_line(const uint8_t *line, size_t length);
  * Where the feast word or date of a line, which is passed as to qv_line, starts, in bytes from the line's first; 0 for a line that
  * qv_line refuses.
  * A feast word or date at the line's head starts at 0 too, so that qv_line or the part's length tells whether there is one.
- * A length of 0 goes with any pointer, NULL too. No byte is changed.
- * Example: "tue after quasimodo 1587 G" answers 10.
+ *
+ *     qv_part_start((const uint8_t *)"tue after quasimodo 1587 G", 26) == 10
+ *     qv_part_start((const uint8_t *)"29.2 1904 G", 11) == 0
  */
 size_t qv_part_start(const uint8_t *line, size_t length);
 
@@ -98,43 +106,57 @@ size_t qv_part_start(const uint8_t *line, size_t length);
  * How many bytes the feast word or date of a line, which is passed as to qv_line, has; 0 for a line that qv_line refuses, and for no
  * other.
  * The start and this length together are never more than the line's length.
- * A length of 0 goes with any pointer, NULL too. No byte is changed.
- * Example: "tue after quasimodo 1587 G" answers 9, the bytes of "quasimodo".
+ *
+ *     qv_part_length((const uint8_t *)"tue after quasimodo 1587 G", 26) == 9
+ *     qv_part_length((const uint8_t *)"29.2 1904 G", 11) == 4
+ *     qv_part_length((const uint8_t *)"29.2 1900 G", 11) == 0
  */
 size_t qv_part_length(const uint8_t *line, size_t length);
 
 /*
  * The day of the feast with this number in the year, or the refusal: QV_NAME, QV_YEAR or QV_SPAN, in this order.
  * Every number may be given.
- * Example: (1, 13, 1225), Easter 1225 J, answers 2168578; (2, 13, 1582) answers 4, and (2, 25, 1582), an epiphany, 6.
+ *
+ *     qv_feast(QV_JULIAN, 13, 1225) == 2168578
+ *     qv_feast(QV_GREGORIAN, 13, 1582) == QV_YEAR
+ *     qv_feast(QV_GREGORIAN, 25, 1582) == QV_SPAN
  */
 uint32_t qv_feast(uint64_t style, uint64_t feast, uint64_t year);
 
 /*
  * The day of the date, or the refusal: QV_NAME, QV_YEAR, QV_DATE or QV_SPAN, in this order.
  * Every number may be given.
- * Example: (2, 1582, 10, 15) answers 2299161; (2, 1582, 10, 14) answers 6, and (2, 1582, 2, 29) 5.
+ *
+ *     qv_day(QV_GREGORIAN, 1582, 10, 15) == 2299161
+ *     qv_day(QV_GREGORIAN, 1582, 10, 14) == QV_SPAN
+ *     qv_day(QV_GREGORIAN, 1582, 2, 29) == QV_DATE
  */
 uint32_t qv_day(uint64_t style, uint64_t year, uint64_t month, uint64_t day);
 
 /*
  * Why the style has no weekday for the day with this number: QV_NAME or QV_SPAN, in this order, or 0 where it has one.
  * Every number may be given.
- * Example: (1, 2415092) answers 0; (2, 2299160) answers 6.
+ *
+ *     qv_weekday_refusal(QV_JULIAN, 2415092) == 0
+ *     qv_weekday_refusal(QV_GREGORIAN, 2299160) == QV_SPAN
  */
 uint32_t qv_weekday_refusal(uint64_t style, uint64_t day_number);
 
 /*
  * The weekday of a day of the style's span, 1 for Monday to 7 for Sunday; 0 where qv_weekday_refusal refuses.
  * Every number may be given.
- * Example: (1, 2415092), 29 February 1900 J, answers 2; (2, 2299160) answers 0.
+ *
+ *     qv_weekday(QV_JULIAN, 2415092) == 2
+ *     qv_weekday(QV_GREGORIAN, 2299160) == 0
  */
 uint32_t qv_weekday(uint64_t style, uint64_t day_number);
 
 /*
  * Why there is no distance from the first date to the second: the first date's refusal (QV_NAME, QV_YEAR, QV_DATE or QV_SPAN, in this
  * order); else the second date's, in the same order; 0 where there is a distance. Every number may be given.
- * Example: (1, 1582, 10, 5, 2, 1582, 10, 15) answers 0; (2, 1582, 10, 14, 2, 1581, 1, 1) answers 6, the first date's.
+ *
+ *     qv_distance_refusal(QV_JULIAN, 1582, 10, 5, QV_GREGORIAN, 1582, 10, 15) == 0
+ *     qv_distance_refusal(QV_GREGORIAN, 1582, 10, 14, QV_GREGORIAN, 1581, 1, 1) == QV_SPAN
  */
 uint32_t qv_distance_refusal(uint64_t style1, uint64_t year1, uint64_t month1, uint64_t day1,
                              uint64_t style2, uint64_t year2, uint64_t month2, uint64_t day2);
@@ -142,7 +164,9 @@ uint32_t qv_distance_refusal(uint64_t style1, uint64_t year1, uint64_t month1, u
 /*
  * The second date's day less the first's, from -3652133 to 3652133; 0 where qv_distance_refusal refuses.
  * Where that does not refuse, 0 is a distance: both dates are the same day. Every number may be given.
- * Example: (1, 1582, 10, 5, 2, 1582, 10, 15) answers 0; (2, 2000, 3, 1, 2, 2000, 2, 28) answers -2.
+ *
+ *     qv_distance(QV_JULIAN, 1582, 10, 5, QV_GREGORIAN, 1582, 10, 15) == 0
+ *     qv_distance(QV_GREGORIAN, 2000, 3, 1, QV_GREGORIAN, 2000, 2, 28) == -2
  */
 int32_t qv_distance(uint64_t style1, uint64_t year1, uint64_t month1, uint64_t day1,
                     uint64_t style2, uint64_t year2, uint64_t month2, uint64_t day2);

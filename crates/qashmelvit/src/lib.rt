@@ -64,18 +64,18 @@ pub extern "C" fn qv_day(style: u64, year: u64, month: u64, day: u64) -> u32
 
 // Why a day has no weekday: 1 or 6, or 0 where it has one.
 #[no_mangle]
-pub extern "C" fn qv_weekday_refusal(style: u64, day: u64) -> u32
-    ensures { λ r. ⌜ r ≡ weekdayRefusal (weekdayOfDay style day) ⌝ }
+pub extern "C" fn qv_weekday_refusal(style: u64, day_number: u64) -> u32
+    ensures { λ r. ⌜ r ≡ weekdayRefusal (weekdayOfDay style «day_number») ⌝ }
 {
-    weekday_refusal(weekday_of_day(style, day))
+    weekday_refusal(weekday_of_day(style, day_number))
 }
 
 // The weekday of a day, 1 for Monday to 7 for Sunday, or 0 where it is refused.
 #[no_mangle]
-pub extern "C" fn qv_weekday(style: u64, day: u64) -> u32
-    ensures { λ r. ⌜ r ≡ weekdayOrZero (weekdayOfDay style day) ⌝ }
+pub extern "C" fn qv_weekday(style: u64, day_number: u64) -> u32
+    ensures { λ r. ⌜ r ≡ weekdayOrZero (weekdayOfDay style «day_number») ⌝ }
 {
-    weekday_or_zero(weekday_of_day(style, day))
+    weekday_or_zero(weekday_of_day(style, day_number))
 }
 
 // Why two dates have no distance: the first date's refusal, then the second's, or 0.
