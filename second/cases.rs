@@ -115,6 +115,10 @@ pub fn compare(lines: impl BufRead) -> ExitCode {
         }
         count += 1;
     }
+    if count == 0 {
+        eprintln!("second: there is no line to compare");
+        return ExitCode::FAILURE;
+    }
     println!("second: {count} answers agree");
-    if count == 0 { ExitCode::FAILURE } else { ExitCode::SUCCESS }
+    ExitCode::SUCCESS
 }
