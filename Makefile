@@ -1,18 +1,30 @@
 .POSIX:
-.PHONY: check answers lib install uninstall prefix kit
+.PHONY: check tests answers lib install uninstall prefix kit
+.NOTPARALLEL:
 
 PREFIX = /usr/local
 
+# What PREFIX and DESTDIR hold goes to the scripts as it is, through their environment, and is no text of make or of a shell.
+unexport PREFIX DESTDIR
+export QV_PREFIX := $(value PREFIX)
+export QV_DESTDIR := $(value DESTDIR)
+
 # The whole test; the last line is rt ci's 'N passed, 0 failed'.
-check: kit
+check: tests
+	tests/anywhere
+	rt ci
+
+# All of it but the proofs of every crate from nothing, the refused edits, and the same tests at another place.
+tests: kit
 	rt fmt --check
-	tests/feasts
+	tests/header
 	tests/edits
 	tests/second
 	tests/c/run
+	tests/script
 	tests/program
 	tests/install
-	rt ci
+	tests/examples
 
 # The worked calls with their answers, from the proved library.
 answers: kit
@@ -25,16 +37,17 @@ lib: kit
 
 # Header, archive, pkg-config file, program and manual pages, below DESTDIR and PREFIX.
 install: prefix lib
-	rt check datelines
-	packaging/install '$(DESTDIR)' '$(PREFIX)'
+	tests/built datelines
+	packaging/install "$$QV_DESTDIR" "$$QV_PREFIX"
 
 uninstall:
-	packaging/uninstall '$(DESTDIR)' '$(PREFIX)'
+	packaging/uninstall "$$QV_DESTDIR" "$$QV_PREFIX"
 
 # A bad PREFIX is told before anything is proved.
 prefix:
-	@packaging/prefix '$(PREFIX)'
+	@packaging/prefix "$$QV_PREFIX"
 
-# The kit is the one that the project is proved with.
+# The folder is one that the kit serves, and the kit is the one that the project is proved with.
 kit:
+	@tests/place
 	@tests/kit
