@@ -9,10 +9,11 @@ unexport PREFIX DESTDIR
 export QV_PREFIX := $(value PREFIX)
 export QV_DESTDIR := $(value DESTDIR)
 
-# The whole test; the last line is rt ci's 'N passed, 0 failed'.
+# The whole test; the last line is rt ci's 'N passed, 0 failed', behind which it is only recorded what the program was built from.
 check: tests
 	tests/anywhere
 	rt ci
+	@tests/built datelines
 
 # All of it but the proofs of every crate from nothing, the refused edits, and the same tests at another place.
 tests: kit

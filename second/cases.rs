@@ -109,11 +109,13 @@ pub fn compare(lines: impl BufRead) -> ExitCode {
         let line = line.expect("the lines can be read");
         let call = line.split_once(": ").map_or(line.as_str(), |(call, _)| call);
         let own = format!("{call}: {}", answered(call));
+        count += 1;
         if line != own {
-            eprintln!("second: the line is '{line}', and here '{own}'");
+            let place = line.split(' ').zip(own.split(' ')).take_while(|(read, own)| read == own).count();
+            let word = |text: &str| text.split(' ').nth(place).unwrap_or("no word").to_string();
+            eprintln!("second: line {count}, '{call}': word {} is '{}', and here '{}'", place + 1, word(&line), word(&own));
             return ExitCode::FAILURE;
         }
-        count += 1;
     }
     if count == 0 {
         eprintln!("second: there is no line to compare");

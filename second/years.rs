@@ -73,11 +73,11 @@ pub fn compare(lines: impl BufRead) -> ExitCode {
             Some(line) => {
                 let same_call = line.starts_with(&format!("{call}: "));
                 let what = if same_call { difference(&line, &own) } else { "the call".to_string() };
-                eprintln!("second: style {style}, year {year}: {what} differs: the line is '{line}', and here '{own}'");
+                eprintln!("second: style {style}, year {year}: {what} differs");
                 return ExitCode::FAILURE;
             }
             None => {
-                eprintln!("second: style {style}, year {year}: the line is missing, and here is '{own}'");
+                eprintln!("second: style {style}, year {year}: the line is missing");
                 return ExitCode::FAILURE;
             }
         }
