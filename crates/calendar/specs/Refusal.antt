@@ -5,10 +5,10 @@ use mathlib.Core.Logic.{_⊎_}
 use mathlib.Core.Path.{_≡_}
 use Prim.Native.Nat.{ℕ, _≤_}
 use lib.Dec.{T, leb}
-use Rattle.calendar.specs.declared.refusal.Refusal.the-variants.{Name, Length, Form, Year, Date, Span}
+use Rattle.calendar.specs.declared.refusal.Refusal.the-variants.{Name, Length, Form, Year, Date, Span, Encoding}
 use Rattle.calendar.specs.declared.refusal.Refusal.{Refusal}
 
--- "Refusal numbers, in the order of checking", each of one digit
+-- "Refusal numbers, in the order of checking", each of one digit; 9 is checked where a transcript is
 abbrev pub numbered : Refusal → (n : ℕ) × T (leb n 9)
 numbered Name = (1, tt)
 numbered Length = (2, tt)
@@ -16,6 +16,7 @@ numbered Form = (3, tt)
 numbered Year = (4, tt)
 numbered Date = (5, tt)
 numbered Span = (6, tt)
+numbered Encoding = (9, tt)
 
 abbrev pub refusalNumber : Refusal → ℕ
 refusalNumber x = numbered x .0

@@ -6,7 +6,7 @@ ghost use Rattle.calendar.specs.Refusal.{refusalNumber};
 pub enum Refusal {
     // A style or feast number is not in its list.
     Name,
-    // A line is empty or too long, or a buffer too short.
+    // A line is empty or too long, a transcript too long, or a buffer too short.
     Length,
     // The grammar does not produce the line.
     Form,
@@ -16,6 +16,8 @@ pub enum Refusal {
     Date,
     // The day lies outside the style's span.
     Span,
+    // The transcript is not UTF-8.
+    Encoding,
 }
 
 // The number that a caller is told.
@@ -29,5 +31,6 @@ pub fn refusal_number(refusal: Refusal) -> u32
         Refusal::Year => 4,
         Refusal::Date => 5,
         Refusal::Span => 6,
+        Refusal::Encoding => 9,
     }
 }

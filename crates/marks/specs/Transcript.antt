@@ -1,0 +1,69 @@
+-- The places of a transcript's marks, and the refusals.
+use mathlib.Core.List.{List, [], _∷_, _++_}
+use mathlib.Core.Logic.{_⊎_}
+use mathlib.Core.Path.{_≡_}
+use Prim.Native.Nat.{ℕ, _/_, _≤_}
+use lib.ListN.{length, drop}
+use lib.Seq.{slice}
+use Rattle.calendar.specs.Refusal.{refusalNumber}
+use Rattle.dating.specs.Line.{IsNumberOfLine}
+use Rattle.places.specs.Number.{numberBytes}
+use Rattle.marks.specs.Mark.{AreMarks}
+use Rattle.marks.specs.Utf8.{Spells, IsUtf8, charactersBefore}
+use Rattle.calendar.specs.declared.refusal.Refusal.the-variants.{Length, Encoding}
+use Rattle.calendar.specs.declared.refusal.Refusal.{Refusal}
+use Rattle.marks.specs.declared.mark.Mark.{Mark}
+
+-- the bytes of five numbers
+abbrev pub placeBytes : (start end first past number : ℕ) → List ℕ
+placeBytes a e f p n = numberBytes a ++ numberBytes e ++ numberBytes f ++ numberBytes p ++ numberBytes n
+
+-- the bytes t tell the mark m of the transcript s with the characters cs: "its start and end in bytes and in characters, and its day or refusal"
+abbrev pub IsPlace : (s cs : List ℕ) → Mark → List ℕ → Type 0
+IsPlace s cs m t = (n : ℕ) × (
+    IsNumberOfLine (slice (m .start) (m .end) s) n
+    × (t ≡ placeBytes (m .start) (m .end) (charactersBefore (m .start) cs) (charactersBefore (m .end) cs) n))
+
+-- the bytes t tell the marks, one behind the other
+abbrev pub Places : (s cs : List ℕ) → List Mark → List ℕ → Type 0
+Places s cs [] t = t ≡ []
+Places s cs (m ∷ ms) t = (p : List ℕ) × ((u : List ℕ) × (IsPlace s cs m p × (Places s cs ms u × (t ≡ p ++ u))))
+
+-- the n marks of the transcript s stand in the places, which held the bytes before: "their number is answered; later places stay"
+pub record Found (s before after : List ℕ) (n : ℕ) : Type 0 where
+  pub characters : List ℕ
+  pub spells : Spells characters s
+  pub marks : List Mark
+  pub are-marks : AreMarks s marks
+  pub count : n ≡ length marks
+  pub text : List ℕ
+  pub places : Places s characters marks text
+  pub bytes : after ≡ text ++ drop (length text) before
+
+-- a refusal, and what has to hold or else it is given
+infix 68 _unless_
+pub data Condition : Type 1 where
+  _unless_ : Refusal → Type 0 → Condition
+
+-- a call looks at its conditions in order: the first that does not hold refuses, and after all of them comes the answer
+module _ (refused : Refusal → Type 0) (answered : Type 0) where
+  abbrev pub Checked : List Condition → Type 0
+  Checked [] = answered
+  Checked (x unless holds ∷ cs) = ((holds → ⊥) × refused x) ⊎ (holds × Checked cs)
+
+-- there are as many places of 20 bytes as marks
+abbrev pub HasPlaces : List ℕ → ℕ → Type 0
+HasPlaces s size = (ms : List Mark) × (AreMarks s ms × (length ms ≤ size / 20))
+
+-- "2 for a longer transcript or too few places; 9, encoding, for bytes that aren't UTF-8, after length and before the marks are counted"
+abbrev pub conditions : List ℕ → ℕ → List Condition
+conditions s size = Length unless (length s ≤ 65536) ∷ Encoding unless IsUtf8 s ∷ Length unless HasPlaces s size ∷ []
+
+-- the call is lent places of so many bytes, answers r, and leaves them with the bytes after
+abbrev pub FindsMarks : {R : Type 0} → (ℕ → R) → (Refusal → R) → (s before after : List ℕ) → R → Type 0
+FindsMarks told refused s before after r =
+    Checked (λ x. (r ≡ refused x) × (after ≡ before)) ((n : ℕ) × (Found s before after n × (r ≡ told n))) (conditions s (length before))
+
+-- r is the refusal's number, or 0 where the marks are not refused
+abbrev pub TellsRefusal : List ℕ → ℕ → ℕ → Type 0
+TellsRefusal s size r = Checked (λ x. r ≡ refusalNumber x) (r ≡ 0) (conditions s size)

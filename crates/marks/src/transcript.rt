@@ -1,0 +1,115 @@
+// The marks of a whole transcript, each in a place of its own.
+use crate::mark::FirstMark;
+use crate::mark::first_mark;
+use crate::utf8::count_starts;
+use crate::utf8::is_utf8;
+use calendar::refusal::Refusal;
+use calendar::refusal::refusal_number;
+use calendar::span::day_or_refusal;
+use dating::line::day_of_line;
+use places::number::put_number;
+ghost use mathlib.Core.Path.{_≡_};
+ghost use Prim.Native.Nat.{_+_, _≤_};
+ghost use lib.ListN.{length};
+ghost use Rattle.marks.specs.Steps.{CountsMarks, withPlace, Fillable, FillsPlaces, CountsInSize};
+ghost use Rattle.marks.specs.Transcript.{FindsMarks, TellsRefusal};
+ghost use Rattle.marks.specs.declared.transcript.MarksAnswer.the-variants.{Marks, NoMarks};
+
+// The number of marks, or why there is none.
+pub enum MarksAnswer {
+    Marks(usize),
+    NoMarks(Refusal),
+}
+
+// How many marks a text has.
+fn count_marks(text: &[u8]) -> usize
+    ensures { λ r. ⌜ CountsMarks (now (text .entry)) r ⌝ }
+{
+    let mut count = 0;
+    let mut at = 0;
+    loop {
+        let FirstMark::At(mark) = first_mark(&text[at..]) else {
+            return count;
+        };
+        count += 1;
+        at += mark.end + 2;
+    }
+}
+
+// Puts the five numbers of a mark at a place.
+fn put_place(places: &mut [u8], at: usize, start: u32, end: u32, first: u32, past: u32, number: u32)
+    requires { ⌜ at + 20 ≤ length (now places) ⌝ }
+    ensures { λ _. ⌜ now (places .exit) ≡ withPlace (now (places .entry)) at start end first past number ⌝ }
+{
+    put_number(places, at, start);
+    put_number(places, at + 4, end);
+    put_number(places, at + 8, first);
+    put_number(places, at + 12, past);
+    put_number(places, at + 16, number);
+}
+
+// Puts the marks of a transcript that is UTF-8 in their places, which are enough.
+fn fill_places(text: &[u8], places: &mut [u8])
+    requires { ⌜ Fillable (now text) (length (now places)) ⌝ }
+    ensures { λ _. ⌜ FillsPlaces (now (text .entry)) (now (places .entry)) (now (places .exit)) ⌝ }
+{
+    let mut place = 0;
+    let mut at = 0;
+    let mut characters = 0;
+    loop {
+        let FirstMark::At(mark) = first_mark(&text[at..]) else {
+            return;
+        };
+        let start = at + mark.start;
+        let end = at + mark.end;
+        let first = characters + count_starts(&text[at..start]);
+        let line = &text[start..end];
+        let past = first + count_starts(line);
+        let number = day_or_refusal(day_of_line(line));
+        put_place(places, place, start as u32, end as u32, first as u32, past as u32, number);
+        place += 20;
+        at = end + 2;
+        characters = past + 2;
+    }
+}
+
+// The number of marks that a transcript has, or the refusal, where places of so many bytes are lent:
+// refused by 2, 9 or 2.
+fn marks_in_size(text: &[u8], size: usize) -> MarksAnswer
+    ensures { λ r. ⌜ CountsInSize (now (text .entry)) size r ⌝ }
+{
+    if text.len() > 65536 {
+        return MarksAnswer::NoMarks(Refusal::Length);
+    }
+    if !is_utf8(text) {
+        return MarksAnswer::NoMarks(Refusal::Encoding);
+    }
+    let count = count_marks(text);
+    if count > size / 20 {
+        return MarksAnswer::NoMarks(Refusal::Length);
+    }
+    MarksAnswer::Marks(count)
+}
+
+// Puts each mark of a transcript in a place of its own, and answers the number of marks: refused by 2, 9 or 2.
+pub fn find_marks(text: &[u8], places: &mut [u8]) -> MarksAnswer
+    ensures { λ r. ⌜ FindsMarks Marks NoMarks (now (text .entry)) (now (places .entry)) (now (places .exit)) r ⌝ }
+{
+    match marks_in_size(text, places.len()) {
+        MarksAnswer::Marks(count) => {
+            fill_places(text, places);
+            MarksAnswer::Marks(count)
+        }
+        MarksAnswer::NoMarks(refusal) => MarksAnswer::NoMarks(refusal),
+    }
+}
+
+// Why a transcript's marks are refused where places of so many bytes are lent: 2 or 9, or 0 where they are not.
+pub fn marks_refusal(text: &[u8], size: usize) -> u32
+    ensures { λ r. ⌜ TellsRefusal (now (text .entry)) size r ⌝ }
+{
+    match marks_in_size(text, size) {
+        MarksAnswer::Marks(_) => 0,
+        MarksAnswer::NoMarks(refusal) => refusal_number(refusal),
+    }
+}

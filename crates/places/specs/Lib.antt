@@ -1,0 +1,2 @@
+-- Numbers in lent bytes.
+pub mod Number
