@@ -37,7 +37,7 @@ starts (b ∷ s) = cond (eqb (b / 64) 2) (starts s) (suc (starts s))
 
 -- ---- marks
 -- the bracket of which two stand at the place i, or 0
-abbrev pub twoAt : List ℕ → ℕ → ℕ
+unfoldable pub twoAt : List ℕ → ℕ → ℕ
 twoAt s i = cond (two (code "[") s i) (code "[") (cond (two (code "]") s i) (code "]") 0)
 
 abbrev pub CountsMarks : List ℕ → ℕ → Type 0

@@ -22,19 +22,20 @@ fn two_at(text: &[u8], at: usize) -> u8
     requires { ⌜ at < length (now text) ⌝ }
     ensures { λ r. ⌜ r ≡ twoAt (now (text .entry)) at ⌝ }
 {
-    let byte = text[at];
-    if byte != b'[' {
-        if byte != b']' {
-            return 0;
-        }
-    }
     if text.len() - at < 2 {
         return 0;
     }
+    let byte = text[at];
     if text[at + 1] != byte {
         return 0;
     }
-    byte
+    if byte == b'[' {
+        return b'[';
+    }
+    if byte == b']' {
+        return b']';
+    }
+    0
 }
 
 // The first mark of a text.
