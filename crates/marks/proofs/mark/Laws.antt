@@ -29,7 +29,7 @@ both true b h = (refl, h)
 both false b h = absurd (true≢false (sym h))
 
 -- ---- two brackets
-brackets-differ : code "[" ≡ code "]" → ⊥
+pub brackets-differ : code "[" ≡ code "]" → ⊥
 brackets-differ e = omega (arith, e)
 
 module _ (b : ℕ) (s : List ℕ) (i : ℕ) where
@@ -123,7 +123,7 @@ pair-two b s zero h = h
 pair-two b s (suc i) h = both (two b s (suc i)) (not (pair b s i)) h .0
 
 -- behind a pair of its own kind none begins that would overlap it
-apart : (b : ℕ) (s : List ℕ) (i : ℕ) → pair b s i ≡ true → pair b s (suc i) ≡ false
+pub apart : (b : ℕ) (s : List ℕ) (i : ℕ) → pair b s i ≡ true → pair b s (suc i) ≡ false
 unfolding pair
 apart b s i h = rw h (and-false (two b s (suc i)))
 
@@ -181,16 +181,16 @@ module _ {s : List ℕ} {i : ℕ} (clear : Clear s i) where
 
 -- ---- marks
 -- a mark does not end where no ]] stands, nor begin behind a place where no [[ does
-not-end : {s : List ℕ} {m : Mark} → IsMark s m → (i : ℕ) → closing s i ≡ false → m .end ≡ i → ⊥
+pub not-end : {s : List ℕ} {m : Mark} → IsMark s m → (i : ℕ) → closing s i ≡ false → m .end ≡ i → ⊥
 not-end {s} {m} h i none e = clash (closing s (m .end)) (h .closed) (rw e none)
 
 not-start : {s : List ℕ} {m : Mark} → IsMark s m → (i : ℕ) → opening s i ≡ false → m .start - 2 ≡ i → ⊥
 not-start {s} {m} h i none e = clash (opening s (m .start - 2)) (h .opened) (rw e none)
 
-past-one : {i n : ℕ} → i ≤ n → (n ≡ i → ⊥) → i + 1 ≤ n
+pub past-one : {i n : ℕ} → i ≤ n → (n ≡ i → ⊥) → i + 1 ≤ n
 past-one low other = omega arith
 
-past-two : {i n : ℕ} → i ≤ n → (n ≡ i → ⊥) → (n ≡ suc i → ⊥) → i + 2 ≤ n
+pub past-two : {i n : ℕ} → i ≤ n → (n ≡ i → ⊥) → (n ≡ suc i → ⊥) → i + 2 ≤ n
 past-two low other another = omega arith
 
 -- of two marks the one that ends first begins first
