@@ -6,6 +6,7 @@ use Rattle.places.specs.Number.{numberBytes, numberOf}
 
 -- A 32-bit number is read back from its bytes.
 pub reads-back : (n : ℕ) → n < 4294967296 → numberOf (numberBytes n) ≡ n
+unfolding numberBytes
 reads-back n small = omega arith
 
 -- So no two have the same bytes.

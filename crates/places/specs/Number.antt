@@ -7,7 +7,7 @@ use lib.ListN.{length}
 use lib.Seq.{sets}
 
 -- "each four bytes, low byte first"
-abbrev pub numberBytes : ℕ → List ℕ
+unfoldable pub numberBytes : ℕ → List ℕ
 numberBytes n = n % 256 ∷ n / 256 % 256 ∷ n / 256 / 256 % 256 ∷ n / 256 / 256 / 256 % 256 ∷ []
 
 -- the number that bytes are, low byte first
@@ -16,5 +16,5 @@ numberOf [] = 0
 numberOf (b ∷ s) = b + 256 * numberOf s
 
 -- the number n is put at the place i of the bytes s; where fewer than four stand there, they stay
-abbrev pub withNumber : List ℕ → ℕ → ℕ → List ℕ
+unfoldable pub withNumber : List ℕ → ℕ → ℕ → List ℕ
 withNumber s i n = cond (leb (i + 4) (length s)) (sets s i (numberBytes n)) s

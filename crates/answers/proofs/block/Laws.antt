@@ -14,7 +14,7 @@ use lib.Seq.{append-snoc, getD-append-add, getD-drop, set-append-seam, sets, len
 use borrow.Author.Tests.{eq-eqb, ne-eqb, le-leb}
 use Rattle.words.proofs.text.Laws.{either, neither, rest}
 use Rattle.dating.proofs.answer.Laws.{answer-length, overlong}
-use Rattle.dating.proofs.writer.Laws.{sets-both, sets-start}
+use Rattle.places.proofs.Bytes.{sets-both, sets-start}
 use Rattle.answers.proofs.Lines.{linesFrom, ended-append, open-append, open-whole, open-lacks}
 use Rattle.answers.proofs.Lines.{answers-append, one-answered, answers-split, one-output}
 use Rattle.words.specs.Text.{has, over}

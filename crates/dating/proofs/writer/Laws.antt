@@ -5,8 +5,9 @@ use mathlib.Core.Path.{_≡_, refl, sym, _∙_, ap}
 use Prim.Native.Nat.{ℕ, suc, _+_, _-_, _/_, _%_, _<_, _≤_}
 use native.Mathlib.Omega.{arith}
 use lib.ListN.{length, set, length-append}
-use lib.Seq.{sets, length-sets, sets-eq, set-comm}
+use lib.Seq.{sets, length-sets, set-comm}
 use borrow.Author.Tests.{le-leb, lt-leb}
+use Rattle.places.proofs.Bytes.{sets-both, sets-start}
 use Rattle.calendar.proofs.date.Laws.{date-small, day-date, one-answer-in-style}
 use Rattle.calendar.proofs.range.Laws.{in-range}
 use Rattle.calendar.proofs.refusal.Laws.{refused-by, both-checked}
@@ -35,13 +36,6 @@ use Rattle.dating.specs.declared.writer.WriteAnswer.{WriteAnswer}
 use Rattle.dating.specs.declared.writer.WriteAnswer.the-variants.{Bytes, NoBytes}
 
 -- ---- bytes put at a place
--- bytes put one behind the other are put at once
-pub sets-both : (v w s : List ℕ) (i : ℕ) → sets (sets s i v) (i + length v) w ≡ sets s i (v ++ w)
-sets-both [] w s i = let e : i + 0 ≡ i = omega arith in rw e
-sets-both (x ∷ v) w s i =
-    let e : i + suc (length v) ≡ suc i + length v = omega arith in
-    rw e (sets-both v w (set s i x) (suc i))
-
 -- the last byte may be put first
 pub sets-last : (w s : List ℕ) (i c : ℕ) → sets (set s (i + length w) c) i w ≡ sets s i (w ++ c ∷ [])
 sets-last [] s i c = let e : i + 0 ≡ i = omega arith in rw e
@@ -49,10 +43,6 @@ sets-last (x ∷ w) s i c =
     let e : i + suc (length w) ≡ suc i + length w = omega arith in
     let other : (suc i + length w ≡ i) → ⊥ = λ h. omega arith in
     rw (e, set-comm s (suc i + length w) i c x other) (sets-last w (set s i x) (suc i) c)
-
--- bytes put at the start stand before the rest
-pub sets-start : (w s : List ℕ) → length w ≤ length s → sets s 0 w ≡ over w s
-sets-start w s h = let e : 0 + length w ≡ length w = omega arith in sets-eq w s 0 (omega arith) ∙ rw e
 
 -- ---- a numeral, put from its last digit on
 module _ (s : List ℕ) (at n : ℕ) where

@@ -4,11 +4,11 @@ use mathlib.Core.List.{List, [], _∷_, _++_}
 use mathlib.Core.Logic.{_↔_, _⊎_, inl, inr, ⊎-elim}
 use mathlib.Core.Path.{_≡_, refl, sym, _∙_, ap, ap₂, subst}
 use Prim.Native.Char.{code}
-use Prim.Native.Nat.{ℕ, zero, suc, _+_, _-_, _<_, _≤_}
+use Prim.Native.Nat.{ℕ, zero, suc, _+_, _-_, _*_, _<_, _≤_}
 use native.Mathlib.Decide.{decLt}
 use native.Mathlib.Omega.{arith}
-use lib.ListN.{length, drop, getD, length-drop}
-use lib.Seq.{getD-drop}
+use lib.ListN.{length, take, drop, getD, length-append, length-drop}
+use lib.Seq.{take-all, getD-drop}
 use Rattle.marks.proofs.mark.Laws.{either, clash, brackets-differ, two-bytes, two-not, two-inside, pair-two, apart, Clear, clear-first, clear-closed}
 use Rattle.marks.proofs.mark.Laws.{not-end, past-one, in-order}
 use Rattle.marks.specs.Mark.{two, pair, opening, closing, IsMark, In, RiseFrom, AreMarks, IsFirstMark}
@@ -145,6 +145,10 @@ rise-snoc i [] x r low all = (low, tt)
 rise-snoc i (y ∷ ms) x r low all = (r .0, rise-snoc (suc (y .start)) ms x (r .1) (all y (inl refl)) (λ m h. all m (inr h)))
 
 -- ---- the marks of the rest of a text
+-- what a slice from i on holds
+pub rest : (i : ℕ) (s : List ℕ) → take (length s - i) (drop i s) ≡ drop i s
+rest i s = let all = length-drop i s in take-all (length s - i) (drop i s) (omega arith)
+
 two-drop : (b : ℕ) (s : List ℕ) (i j : ℕ) → two b (drop i s) j ≡ two b s (i + j)
 two-drop b s i j =
     let e : i + suc j ≡ suc (i + j) = omega arith in
@@ -206,6 +210,8 @@ pub record Upto (s : List ℕ) (i : ℕ) (ms : List Mark) : Type 0 where
   pub each : (m : Mark) → In m ms ↔ (IsMark s m × (m .end < i))
   pub rise : RiseFrom 0 ms
   pub beyond : (m : Mark) → IsMark s m → i ≤ m .end → i + 2 ≤ m .start
+  -- each takes four brackets
+  pub few : length ms * 4 ≤ i
 
 pub upto-first : (s : List ℕ) → Upto s 0 []
 upto-first s = record {
@@ -214,6 +220,7 @@ upto-first s = record {
   each = λ m. (λ h. absurd h, λ h. absurd (omega (arith, h .1)));
   rise = tt;
   beyond = λ m h low. h .behind;
+  few = omega arith;
 }
 
 module _ {s : List ℕ} {i : ℕ} {ms : List Mark} (p : Upto s i ms) where
@@ -243,6 +250,7 @@ module _ {s : List ℕ} {i : ℕ} {ms : List Mark} (p : Upto s i ms) where
       );
       rise = rise-snoc 0 ms (shifted i m) (p .rise) (omega arith) before;
       beyond = λ o k low. let far = behind-other next k (omega arith) in omega arith;
+      few = let count = length-append ms (shifted i m ∷ []) in omega (arith, p .few, h .0 .behind, h .0 .forward);
     }
       where
         found : (o : Mark) → IsMark s o → o .end < i + m .end + 2 → In o ms ⊎ (o ≡ shifted i m)

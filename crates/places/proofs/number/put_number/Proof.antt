@@ -4,13 +4,16 @@ use native.Mathlib.Omega.{arith}
 use lib.ListN.{length}
 use borrow.Author.Needs.{needs}
 use borrow.Author.Tests.{le-leb, lt-leb}
+use Rattle.places.specs.Number.{numberBytes, withNumber}
 use Rattle.places.proofs.number.put_number.Statement.{statement}
 use Rattle.places.proofs.number.put_number.Tie as tie
 
 returns : tie.Need-returns
+unfolding withNumber
 returns c = let a = c .before .args in rw (lt-leb (a .at + 4) (length (a .buffer .now)) (omega (arith, c .if1 .taken)))
 
 returns-2 : tie.Need-returns-2
+unfolding withNumber
 returns-2 c =
     let a = c .before .before .args in
     rw (lt-leb (a .at + 4) (length (a .buffer .now)) (omega (arith, c .before .if1 .left, c .if2 .taken)))
@@ -30,6 +33,7 @@ slice-write-buffer-4 : tie.Need-slice-write-buffer-4
 slice-write-buffer-4 c = search (needs, inside c 3 (omega arith))
 
 returns-3 : tie.Need-returns-3
+unfolding numberBytes withNumber
 returns-3 c =
     let a = c .before .before .args in
     let one : a .at + 1 ≡ suc (a .at) = omega arith in
