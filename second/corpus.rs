@@ -7,13 +7,13 @@ use std::collections::HashSet;
 use std::io::Write;
 use std::process::ExitCode;
 
-type Line = Vec<u8>;
+pub type Line = Vec<u8>;
 
 /// Years at the bounds of the styles, and years with an Easter that is easily missed.
 const YEARS: [i32; 16] = [1, 4, 1225, 1581, 1582, 1583, 1587, 1810, 1818, 1900, 1943, 1954, 1981, 2000, 2025, 9999];
 
 /// Accepted lines, from which other kinds make bad ones; they hold every wrapper word.
-const GOOD: [&str; 12] = [
+pub const GOOD: [&str; 12] = [
     "easter 1225 J",
     "29.2 1900 J",
     "1.1 1 J",
@@ -500,22 +500,22 @@ fn no_anchor(corpus: &mut Corpus) {
 }
 
 /// Knuth's linear congruential generator for MMIX, of which the upper half is used.
-struct Numbers(u64);
+pub struct Numbers(pub u64);
 
 impl Numbers {
     /// A number from 0 up to the count, without it.
-    fn below(&mut self, count: usize) -> usize {
+    pub fn below(&mut self, count: usize) -> usize {
         self.0 = self.0.wrapping_mul(6364136223846793005).wrapping_add(1442695040888963407);
         (self.0 >> 32) as usize % count
     }
 
-    fn one_of<T: Clone>(&mut self, list: &[T]) -> T {
+    pub fn one_of<T: Clone>(&mut self, list: &[T]) -> T {
         list[self.below(list.len())].clone()
     }
 }
 
 /// A phrase of up to twelve wrappers, with a year and a style; one year in three is at a bound.
-fn random_line(numbers: &mut Numbers) -> String {
+pub fn random_line(numbers: &mut Numbers) -> String {
     let wrappers = wrappers();
     let count = numbers.below(13);
     let mut line: String = (0..count).map(|_| numbers.one_of(&wrappers) + " ").collect();
@@ -559,11 +559,16 @@ fn random(corpus: &mut Corpus) {
     }
 }
 
-/// Prints the lines of all kinds, each ended by a line feed.
-pub fn print() -> ExitCode {
+/// The lines of all kinds.
+pub fn lines() -> Vec<Line> {
     let mut corpus = Corpus { lines: vec![], seen: HashSet::new() };
     KINDS.iter().for_each(|kind| kind(&mut corpus));
-    let text: Vec<u8> = corpus.lines.into_iter().flat_map(|line| [line, vec![b'\n']].concat()).collect();
+    corpus.lines
+}
+
+/// Prints the lines, each ended by a line feed.
+pub fn print() -> ExitCode {
+    let text: Vec<u8> = lines().into_iter().flat_map(|line| [line, vec![b'\n']].concat()).collect();
     std::io::stdout().write_all(&text).expect("the lines can be printed");
     ExitCode::SUCCESS
 }

@@ -140,6 +140,11 @@ pub fn answer(lines: impl BufRead) -> ExitCode {
     ExitCode::SUCCESS
 }
 
+/// The day, or the refusal's number.
+pub fn day_or_refusal(line: &[u8]) -> i128 {
+    read(line).map_or_else(i128::from, |(day, _)| day)
+}
+
 /// The day, its weekday, and its date in the line's style.
 fn told(line: &[u8]) -> Answer<String> {
     let (day, Parsed { style, .. }) = read(line)?;
@@ -147,15 +152,17 @@ fn told(line: &[u8]) -> Answer<String> {
     Ok(format!("{day} {} {of_month}.{month} {year} {}", weekday(day), STYLES[style as usize - 1]))
 }
 
-/// Prints for each line what the program must print: 0 and what is told, or the refusal's number alone.
+/// What the program must print for a line: 0 and what is told, or the refusal's number alone.
+pub fn printed(line: &[u8]) -> String {
+    told(line).map_or_else(|refusal| refusal.to_string(), |told| format!("0 {told}"))
+}
+
+/// Prints for each line what the program must print.
 pub fn run(lines: impl BufRead) -> ExitCode {
     let mut output = BufWriter::new(std::io::stdout().lock());
     for line in lines.split(b'\n') {
-        let printed = match told(&line.expect("the lines can be read")) {
-            Ok(told) => writeln!(output, "0 {told}"),
-            Err(refusal) => writeln!(output, "{refusal}"),
-        };
-        printed.expect("the answers can be printed");
+        let line = line.expect("the lines can be read");
+        writeln!(output, "{}", printed(&line)).expect("the answers can be printed");
     }
     output.flush().expect("the answers can be printed");
     ExitCode::SUCCESS

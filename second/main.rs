@@ -6,9 +6,12 @@ mod corpus;
 mod days;
 mod feasts;
 mod lines;
+mod marks;
 mod outside;
+mod pieces;
 mod sheets;
 mod tables;
+mod transcripts;
 mod years;
 
 use std::process::ExitCode;
@@ -21,7 +24,11 @@ usage: second cases < LINES             compares lines 'CALL NUMBERS: ANSWER' wi
        second outside FILE.. < LINES    compares lines of such calls with printed tables
        second lines < LINES             prints 'NUMBER START LENGTH' for each dating line
        second run < LINES               prints for each dating line what the program datelines must print
-       second corpus                    prints dating lines, good and bad";
+       second corpus                    prints dating lines, good and bad
+       second marks < CASES             prints 'REFUSAL COUNT' and for each mark ' START END FIRST PAST NUMBER'
+       second datemarks < TRANSCRIPT    prints for a transcript what the program datemarks must print
+       second transcripts               prints cases 'SIZE: PIECE PIECE ..' of transcripts, good and bad
+       second transcript N < CASES      writes the bytes of the Nth case's transcript";
 
 fn main() -> ExitCode {
     let words: Vec<String> = std::env::args().skip(1).collect();
@@ -35,6 +42,10 @@ fn main() -> ExitCode {
         ["lines"] => lines::answer(lines),
         ["run"] => lines::run(lines),
         ["corpus"] => corpus::print(),
+        ["marks"] => marks::answer(lines),
+        ["datemarks"] => marks::run(lines),
+        ["transcripts"] => transcripts::print(),
+        ["transcript", number] => marks::transcript(number, lines),
         _ => {
             eprintln!("{USAGE}");
             ExitCode::from(2)
