@@ -20,6 +20,8 @@ enum {
     LAST_YEAR = 9999,
     LONGEST = 120,       /* the longest line that is read */
     LONGEST_TRIED = 200,
+    LONGEST_TRANSCRIPT = 65536,
+    PLACE = 20,          /* the bytes of a mark's five numbers */
     FAILURES_SHOWN = 20
 };
 
@@ -600,6 +602,8 @@ static void check_null(void)
     check(QV_LENGTH, qv_line(NULL, 0), "qv_line(NULL, 0)");
     check(0, (int64_t)qv_part_start(NULL, 0), "qv_part_start(NULL, 0)");
     check(0, (int64_t)qv_part_length(NULL, 0), "qv_part_length(NULL, 0)");
+    check(0, qv_marks_refusal(NULL, 0, 0), "qv_marks_refusal(NULL, 0, 0)");
+    check(0, (int64_t)qv_marks(NULL, 0, NULL, 0), "qv_marks(NULL, 0, NULL, 0)");
 }
 
 /* A line of one byte over and over has no form, and one of no bytes or too many is refused before that. */
@@ -758,6 +762,22 @@ static void check_random_chains(void)
     }
 }
 
+/* Transcripts. */
+
+/* A mark at the end of the longest transcript is found, and one byte more is refused with the place as it was. */
+static void check_longest_transcript(void)
+{
+    static uint8_t text[LONGEST_TRANSCRIPT + 1], place[PLACE];
+    memset(text, 'a', sizeof text);
+    memcpy(text + LONGEST_TRANSCRIPT - 17, "[[easter 1225 J]]", 17);
+    check(0, qv_marks_refusal(text, LONGEST_TRANSCRIPT, PLACE), "qv_marks_refusal(.., 65536, 20)");
+    check(1, (int64_t)qv_marks(text, LONGEST_TRANSCRIPT, place, PLACE), "qv_marks(.., 65536, .., 20)");
+    memset(place, GUARD_BYTE, PLACE);
+    check(QV_LENGTH, qv_marks_refusal(text, LONGEST_TRANSCRIPT + 1, PLACE), "qv_marks_refusal(.., 65537, 20)");
+    check(0, (int64_t)qv_marks(text, LONGEST_TRANSCRIPT + 1, place, PLACE), "qv_marks(.., 65537, .., 20)");
+    check(0, memcmp(place, guard, PLACE) != 0, "changes its place: qv_marks(.., 65537, .., 20)");
+}
+
 static void check_style(uint64_t style)
 {
     static const uint64_t years[] = {1, 1581, 1582, 1583, 1587, 1900, 2000, 9998, 9999};
@@ -807,6 +827,7 @@ int main(void)
     check_style(QV_GREGORIAN);
     check_calls_on_numbers();
     check_calls_on_lines();
+    check_longest_transcript();
     if (failures > 0) {
         fprintf(stderr, "calls: %lu of %lu checks failed\n", failures, checks);
         return 1;
