@@ -46,6 +46,11 @@ pub data IsAnswer (s t : List ℕ) : Type 0 where
 abbrev pub PutsText : ℕ → (before after : List ℕ) → ℕ → List ℕ → Type 0
 PutsText i before after r t = (r ≡ length t) × (after ≡ sets before i t)
 
+-- the number n and the byte c behind it are put at the place i of a buffer; where fewer bytes stand there than the longest number and the byte
+-- have, which are 21, nothing is put, and 0 is answered
+abbrev pub PutsField : (n c i : ℕ) → (before after : List ℕ) → ℕ → Type 0
+PutsField n c i before after r = cond (leb (i + 21) (length before)) (PutsText i before after r (field n c)) ((r ≡ 0) × (after ≡ before))
+
 -- the answer to the line s is put at the place i of a buffer; where fewer bytes stand there than the longest answer has,
 -- which are 25, nothing is put, and 0 is answered
 abbrev pub PutsAnswer : List ℕ → ℕ → (before after : List ℕ) → ℕ → Type 0

@@ -13,8 +13,22 @@ ghost use mathlib.Core.Path.{_≡_};
 ghost use Prim.Native.Nat.{_+_, _≤_};
 ghost use lib.ListN.{length};
 ghost use Rattle.calendar.specs.Span.{inSpan};
-ghost use Rattle.dating.specs.Answer.{dayFields, refusedText, PutsAnswer};
+ghost use Rattle.dating.specs.Answer.{dayFields, refusedText, PutsField, PutsAnswer};
 ghost use Rattle.dating.specs.Steps.{Put, PutsDated};
+
+// Puts a number and a byte behind it at a place of a buffer, and answers how many bytes they are; where
+// fewer than 21 bytes stand there, which the longest number and the byte have, nothing is put, and 0 is answered.
+pub fn put_field(buffer: &mut [u8], at: usize, number: u64, behind: u8) -> usize
+    ensures { λ r. ⌜ PutsField number behind at (now (buffer .entry)) (now (buffer .exit)) r ⌝ }
+{
+    if buffer.len() < 21 {
+        return 0;
+    }
+    if at > buffer.len() - 21 {
+        return 0;
+    }
+    put_number(buffer, at, number, behind) - at
+}
 
 // Puts the answer that is a refusal's number at a place, and answers the place behind it.
 fn put_refused(buffer: &mut [u8], at: usize, refusal: Refusal) -> usize

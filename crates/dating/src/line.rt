@@ -2,6 +2,7 @@
 use crate::phrase::phrase_in_year;
 use calendar::refusal::Refusal;
 use calendar::span::DayAnswer;
+use calendar::span::day_or_refusal;
 use calendar::style::Style;
 use calendar::style::StyleAnswer;
 use calendar::year::NamedYear;
@@ -11,7 +12,7 @@ ghost use mathlib.Core.List.{[], _∷_};
 ghost use Rattle.calendar.specs.declared.refusal.Refusal.the-variants.{Form};
 ghost use Rattle.calendar.specs.declared.style.StyleAnswer.the-variants.{Known, NoStyle};
 ghost use Rattle.words.specs.Told.{Told};
-ghost use Rattle.dating.specs.Line.{IsDayOfLine};
+ghost use Rattle.dating.specs.Line.{IsDayOfLine, IsNumberOfLine};
 ghost use Rattle.dating.specs.Steps.{letters, endings, endAt, IsReading};
 ghost use Rattle.dating.specs.declared.line.Ending.the-variants.{NoEnding};
 
@@ -103,4 +104,11 @@ pub fn day_of_line(line: &[u8]) -> DayAnswer
         } => DayAnswer::Day(day),
         Reading::Refused(refusal) => DayAnswer::NoDay(refusal),
     }
+}
+
+// The one number of the answer to a dating line: its day, or the refusal 2, 3, 4, 5 or 6.
+pub fn number_of_line(line: &[u8]) -> u32
+    ensures { λ r. ⌜ IsNumberOfLine (now (line .entry)) r ⌝ }
+{
+    day_or_refusal(day_of_line(line))
 }

@@ -5,8 +5,7 @@ use crate::utf8::count_starts;
 use crate::utf8::is_utf8;
 use calendar::refusal::Refusal;
 use calendar::refusal::refusal_number;
-use calendar::span::day_or_refusal;
-use dating::line::day_of_line;
+use dating::line::number_of_line;
 use places::number::put_number;
 ghost use mathlib.Core.Path.{_≡_};
 ghost use Prim.Native.Nat.{_+_, _≤_};
@@ -65,7 +64,7 @@ fn fill_places(text: &[u8], places: &mut [u8])
         let first = characters + count_starts(&text[at..start]);
         let line = &text[start..end];
         let past = first + count_starts(line);
-        let number = day_or_refusal(day_of_line(line));
+        let number = number_of_line(line);
         put_place(places, place, start as u32, end as u32, first as u32, past as u32, number);
         place += 20;
         at = end + 2;

@@ -9,7 +9,7 @@ use calendar::weekday::weekday_of_day;
 use calendar::weekday::weekday_or_zero;
 use calendar::weekday::weekday_refusal;
 use church::feast::feast_of_year;
-use dating::line::day_of_line;
+use dating::line::number_of_line;
 use dating::part::part_of_line;
 use dating::part::place_of_part;
 ghost use mathlib.Core.Path.{_≡_};
@@ -26,7 +26,7 @@ ghost use Rattle.dating.specs.Part.{IsPartStart, IsPartLength};
 pub extern "C" fn qv_line(line: &[u8]) -> u32
     ensures { λ r. ⌜ IsNumberOfLine (now (line .entry)) r ⌝ }
 {
-    day_or_refusal(day_of_line(line))
+    number_of_line(line)
 }
 
 // Where the feast word or date of a dating line begins; 0 for a refused line.

@@ -65,13 +65,13 @@ module _ (s : Style) (n : ℕ) {before c d : List ℕ} {i j k : ℕ} (p : Put be
       let same = put-length (q .1 .1) ∙ put-length p in
       omega (arith, p .behind, q .1 .1 .behind)
 
--- ---- the answer put at a place with room for the longest
-pub room : (i n : ℕ) → 25 ≤ n → i ≤ n - 25 → leb (i + 25) n ≡ true
-room i n h k = le-leb (i + 25) n (omega arith)
+-- ---- room at a place, and the answer put where there is room for the longest
+pub room : (i k n : ℕ) → k ≤ n → i ≤ n - k → leb (i + k) n ≡ true
+room i k n h j = le-leb (i + k) n (omega arith)
 
-pub no-room : (i n : ℕ) → n < 25 ⊎ n - 25 < i → leb (i + 25) n ≡ false
-no-room i n (inl h) = lt-leb (i + 25) n (omega arith)
-no-room i n (inr h) = lt-leb (i + 25) n (omega arith)
+pub no-room : (i k n : ℕ) → n < k ⊎ n - k < i → leb (i + k) n ≡ false
+no-room i k n (inl h) = lt-leb (i + k) n (omega arith)
+no-room i k n (inr h) = lt-leb (i + k) n (omega arith)
 
 pub answered : (s : List ℕ) (i : ℕ) (before : List ℕ) {after : List ℕ} {r : ℕ} (t : List ℕ)
     → leb (i + 25) (length before) ≡ true → IsAnswer s t → Put before i t after r → PutsAnswer s i before after (r - i)

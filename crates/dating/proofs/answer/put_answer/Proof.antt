@@ -15,12 +15,12 @@ use Rattle.dating.proofs.answer.put_answer.Tie as tie
 returns : tie.Need-returns
 returns c =
     let a = c .before .before .before .args in
-    rw (no-room (a .at) (length (a .buffer .now)) (inl (c .if1 .taken))) (refl, refl)
+    rw (no-room (a .at) 25 (length (a .buffer .now)) (inl (c .if1 .taken))) (refl, refl)
 
 returns-2 : tie.Need-returns-2
 returns-2 c =
     let a = c .before .before .before .before .args in
-    rw (no-room (a .at) (length (a .buffer .now)) (inr (c .if2 .taken))) (refl, refl)
+    rw (no-room (a .at) 25 (length (a .buffer .now)) (inr (c .if2 .taken))) (refl, refl)
 
 put-dated-requires : tie.Need-put-dated-requires
 put-dated-requires c κs =
@@ -35,7 +35,7 @@ fits : (c : tie.After-reading-of-line)
     leb (a .at + 25) (length (a .buffer .now)) ≡ true
 fits c =
     let a = c .before .before .before .before .before .args in
-    room (a .at) (length (a .buffer .now)) (c .before .before .if1 .left) (c .before .if2 .left)
+    room (a .at) 25 (length (a .buffer .now)) (c .before .before .if1 .left) (c .before .if2 .left)
 
 returns-3 : tie.Need-returns-3
 returns-3 c =
