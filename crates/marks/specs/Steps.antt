@@ -3,7 +3,7 @@ use mathlib.Core.Bool.{cond}
 use mathlib.Core.List.{List, [], _∷_, _++_}
 use mathlib.Core.Path.{_≡_}
 use Prim.Native.Char.{code}
-use Prim.Native.Nat.{ℕ, suc, _+_, _*_, _/_, _≤_}
+use Prim.Native.Nat.{ℕ, _*_, _≤_}
 use lib.Dec.{eqb, ltb}
 use lib.ListN.{length}
 use lib.Seq.{sets}
@@ -29,11 +29,6 @@ mostSecond b = cond (eqb b 0xED) 0x9F (cond (eqb b 0xF4) 0x8F 0xBF)
 pub data LeadSize (s : List ℕ) (r : ℕ) : Type 0 where
   leads : (c : ℕ) (t : List ℕ) → CodePoint c → encoded c ++ t ≡ s → r ≡ length (encoded c) → LeadSize s r
   leadless : ((c : ℕ) (t : List ℕ) → CodePoint c → encoded c ++ t ≡ s → ⊥) → r ≡ 0 → LeadSize s r
-
--- how many bytes begin a character
-unfoldable pub starts : List ℕ → ℕ
-starts [] = 0
-starts (b ∷ s) = cond (eqb (b / 64) 2) (starts s) (suc (starts s))
 
 -- ---- marks
 -- the bracket of which two stand at the place i, or 0

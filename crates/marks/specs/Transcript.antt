@@ -3,16 +3,26 @@ use mathlib.Core.List.{List, [], _∷_, _++_}
 use mathlib.Core.Logic.{_⊎_}
 use mathlib.Core.Path.{_≡_}
 use Prim.Native.Nat.{ℕ, _/_, _≤_}
-use lib.ListN.{length, drop}
+use lib.ListN.{length, take, drop}
 use lib.Seq.{slice}
 use Rattle.calendar.specs.Refusal.{refusalNumber}
 use Rattle.dating.specs.Line.{IsNumberOfLine}
 use Rattle.places.specs.Number.{numberBytes}
-use Rattle.marks.specs.Mark.{AreMarks}
-use Rattle.marks.specs.Utf8.{Spells, IsUtf8, charactersBefore}
+use Rattle.marks.specs.Mark.{AreMarks, IsFirstMark}
+use Rattle.marks.specs.Utf8.{Spells, IsUtf8, charactersBefore, starts}
 use Rattle.calendar.specs.declared.refusal.Refusal.the-variants.{Length, Encoding}
 use Rattle.calendar.specs.declared.refusal.Refusal.{Refusal}
+use Rattle.marks.specs.declared.mark.FirstMark.the-variants.{At, NoMark}
 use Rattle.marks.specs.declared.mark.Mark.{Mark}
+use Rattle.marks.specs.declared.transcript.MarksAnswer.the-variants.{Marks, NoMarks}
+use Rattle.marks.specs.declared.transcript.MarksAnswer.{MarksAnswer}
+use Rattle.marks.specs.declared.transcript.NextMark.the-variants.{Next, NoMore}
+use Rattle.marks.specs.declared.transcript.NextMark.{NextMark}
+
+-- r is the first mark of s by its place, with the characters that begin before its start and before its end; or there is none
+abbrev pub IsNextMark : List ℕ → NextMark → Type 0
+IsNextMark s (Next a e f p) = IsFirstMark s (At (record { start = a; end = e })) × ((f ≡ starts (take a s)) × (p ≡ starts (take e s)))
+IsNextMark s NoMore = IsFirstMark s NoMark
 
 -- the bytes of five numbers
 abbrev pub placeBytes : (start end first past number : ℕ) → List ℕ
@@ -55,9 +65,13 @@ module _ (refused : Refusal → Type 0) (answered : Type 0) where
 abbrev pub HasPlaces : List ℕ → ℕ → Type 0
 HasPlaces s size = (ms : List Mark) × (AreMarks s ms × (length ms ≤ size / 20))
 
--- "2 for a longer transcript or too few places; 9, encoding, for bytes that aren't UTF-8, after length and before the marks are counted"
+-- "2 for a longer transcript ..; 9, encoding, for bytes that aren't UTF-8, after length and before the marks are counted"
+abbrev pub readable : List ℕ → List Condition
+readable s = Length unless (length s ≤ 65536) ∷ Encoding unless IsUtf8 s ∷ []
+
+-- and behind these "2 for .. too few places"
 abbrev pub conditions : List ℕ → ℕ → List Condition
-conditions s size = Length unless (length s ≤ 65536) ∷ Encoding unless IsUtf8 s ∷ Length unless HasPlaces s size ∷ []
+conditions s size = readable s ++ Length unless HasPlaces s size ∷ []
 
 -- the call is lent places of so many bytes, answers r, and leaves them with the bytes after
 abbrev pub FindsMarks : {R : Type 0} → (ℕ → R) → (Refusal → R) → (s before after : List ℕ) → R → Type 0
@@ -67,3 +81,13 @@ FindsMarks told refused s before after r =
 -- r is the refusal's number, or 0 where the marks are not refused
 abbrev pub TellsRefusal : List ℕ → ℕ → ℕ → Type 0
 TellsRefusal s size r = Checked (λ x. r ≡ refusalNumber x) (r ≡ 0) (conditions s size)
+
+-- the number of marks, or 0 where they are refused
+abbrev pub marksOrZero : MarksAnswer → ℕ
+marksOrZero (Marks n) = n
+marksOrZero (NoMarks x) = 0
+
+-- the refusal's number, or 0 where there is none
+abbrev pub marksRefusal : MarksAnswer → ℕ
+marksRefusal (Marks n) = 0
+marksRefusal (NoMarks x) = refusalNumber x

@@ -4,7 +4,7 @@ use mathlib.Core.List.{List, [], _∷_, _++_}
 use mathlib.Core.Logic.{_⊎_}
 use mathlib.Core.Path.{_≡_}
 use Prim.Native.Nat.{ℕ, suc, _+_, _-_, _/_, _%_, _<_, _≤_}
-use lib.Dec.{leb, ltb}
+use lib.Dec.{leb, ltb, eqb}
 use lib.ListN.{length}
 
 -- "A character is a Unicode code point": 0 to 0x10FFFF without 0xD800 to 0xDFFF
@@ -49,3 +49,8 @@ TellsUtf8 s r = cond r (IsUtf8 s) (IsUtf8 s → ⊥)
 unfoldable pub charactersBefore : ℕ → List ℕ → ℕ
 charactersBefore i [] = 0
 charactersBefore i (c ∷ cs) = cond (leb (length (encoded c)) i) (suc (charactersBefore (i - length (encoded c)) cs)) 0
+
+-- how many bytes begin a character: all but those that begin with the bits 0b10
+unfoldable pub starts : List ℕ → ℕ
+starts [] = 0
+starts (b ∷ s) = cond (eqb (b / 0x40) 0b10) (starts s) (suc (starts s))

@@ -11,13 +11,43 @@ ghost use mathlib.Core.Path.{_≡_};
 ghost use Prim.Native.Nat.{_+_, _≤_};
 ghost use lib.ListN.{length};
 ghost use Rattle.marks.specs.Steps.{CountsMarks, withPlace, Fillable, FillsPlaces, CountsInSize};
-ghost use Rattle.marks.specs.Transcript.{FindsMarks, TellsRefusal};
+ghost use Rattle.marks.specs.Transcript.{IsNextMark, FindsMarks, TellsRefusal, marksOrZero};
 ghost use Rattle.marks.specs.declared.transcript.MarksAnswer.the-variants.{Marks, NoMarks};
 
 // The number of marks, or why there is none.
 pub enum MarksAnswer {
     Marks(usize),
     NoMarks(Refusal),
+}
+
+// The first mark of a text: where it begins and ends, and how many characters begin before these places; or none.
+pub enum NextMark {
+    Next {
+        start: usize,
+        end: usize,
+        first: usize,
+        past: usize,
+    },
+    NoMore,
+}
+
+// The first mark of a text, in bytes and in characters.
+pub fn next_mark(text: &[u8]) -> NextMark
+    ensures { λ r. ⌜ IsNextMark (now (text .entry)) r ⌝ }
+{
+    let FirstMark::At(mark) = first_mark(text) else {
+        return NextMark::NoMore;
+    };
+    let start = mark.start;
+    let end = mark.end;
+    let first = count_starts(&text[..start]);
+    let past = first + count_starts(&text[start..end]);
+    NextMark::Next {
+        start,
+        end,
+        first,
+        past,
+    }
 }
 
 // How many marks a text has.
@@ -56,19 +86,27 @@ fn fill_places(text: &[u8], places: &mut [u8])
     let mut at = 0;
     let mut characters = 0;
     loop {
-        let FirstMark::At(mark) = first_mark(&text[at..]) else {
+        let NextMark::Next {
+            start,
+            end,
+            first,
+            past,
+        } = next_mark(&text[at..]) else {
             return;
         };
-        let start = at + mark.start;
-        let end = at + mark.end;
-        let first = characters + count_starts(&text[at..start]);
-        let line = &text[start..end];
-        let past = first + count_starts(line);
-        let number = number_of_line(line);
-        put_place(places, place, start as u32, end as u32, first as u32, past as u32, number);
+        let number = number_of_line(&text[at + start..at + end]);
+        put_place(
+            places,
+            place,
+            (at + start) as u32,
+            (at + end) as u32,
+            (characters + first) as u32,
+            (characters + past) as u32,
+            number,
+        );
         place += 20;
-        at = end + 2;
-        characters = past + 2;
+        at += end + 2;
+        characters += past + 2;
     }
 }
 
@@ -110,5 +148,15 @@ pub fn marks_refusal(text: &[u8], size: usize) -> u32
     match marks_in_size(text, size) {
         MarksAnswer::Marks(_) => 0,
         MarksAnswer::NoMarks(refusal) => refusal_number(refusal),
+    }
+}
+
+// The number of marks, or 0 where they are refused.
+pub fn marks_or_zero(answer: MarksAnswer) -> usize
+    ensures { λ r. ⌜ r ≡ marksOrZero answer ⌝ }
+{
+    match answer {
+        MarksAnswer::Marks(count) => count,
+        MarksAnswer::NoMarks(_) => 0,
     }
 }

@@ -1,7 +1,7 @@
 // UTF-8, byte by byte.
 ghost use mathlib.Core.Path.{_≡_};
-ghost use Rattle.marks.specs.Steps.{sizeByFirst, leastSecond, mostSecond, LeadSize, starts};
-ghost use Rattle.marks.specs.Utf8.{TellsUtf8};
+ghost use Rattle.marks.specs.Steps.{sizeByFirst, leastSecond, mostSecond, LeadSize};
+ghost use Rattle.marks.specs.Utf8.{TellsUtf8, starts};
 
 // How many bytes a character has that begins with this byte, or 0 where none does.
 fn size_by_first(first: u8) -> usize
@@ -85,7 +85,7 @@ fn lead_size(text: &[u8]) -> usize
     if text[3] / 64 != 2 {
         return 0;
     }
-    4
+    size
 }
 
 // Whether bytes are UTF-8.

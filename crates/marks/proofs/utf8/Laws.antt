@@ -1,251 +1,20 @@
--- UTF-8: the bytes of one character, characters one behind the other, and the places between them.
+-- UTF-8: characters one behind the other, how they are counted, the places between them, and how they are read.
 use mathlib.Core.Bool.{Bool, true, false, cond}
-use mathlib.Core.List.{List, [], _∷_, _++_, append-assoc, append-cancel-left, append-nil}
-use mathlib.Core.Logic.{⊎-elim, inl, inr}
+use mathlib.Core.List.{List, [], _∷_, _++_, append-assoc, append-nil}
+use mathlib.Core.Logic.{inl}
 use mathlib.Core.Path.{_≡_, refl, sym, _∙_, ap, ap₂}
-use Prim.Native.Nat.{ℕ, zero, suc, _+_, _-_, _*_, _/_, _%_, _<_, _≤_}
-use native.Mathlib.Decide.{decLt, ℕ-discrete}
+use Prim.Native.Nat.{ℕ, zero, suc, _+_, _-_, _/_, _<_, _≤_}
+use native.Mathlib.Decide.{decLt}
 use native.Mathlib.Nat.{add-zero, le-refl, sub-self, sub-zero, zero-add}
 use native.Mathlib.Numerals.{add-one}
 use native.Mathlib.Omega.{arith}
-use lib.Dec.{eqb, ltb, leb}
-use lib.ListN.{length, take, drop, getD, length-append, length-drop, take-append-drop, drop-of-length-le, List·getD-append}
-use lib.Seq.{slice, append-snoc, take-suc, take-all, take-at, drop-at, drop-append-seam, drop-cons, drop-drop, length-take-le, getD-append-add}
-use borrow.Author.Tests.{lt-ltb, le-ltb, le-leb, lt-leb, eq-eqb, ne-eqb}
-use Rattle.marks.specs.Steps.{sizeByFirst, leastSecond, mostSecond, LeadSize, leads, leadless, starts}
-use Rattle.marks.specs.Utf8.{CodePoint, tail, encoded, spelled, CodePoints, Spells, IsUtf8, charactersBefore}
-
--- ---- what a test picks
--- what holds of either pick where the test chose it holds of what a test picks
-picked-below : {A : Type 0} (P : A → Type 0) {x y : A} (a k : ℕ) → (a < k → P x) → (k ≤ a → P y) → P (cond (ltb a k) x y)
-picked-below P a k f g =
-    elim (decLt a k) [
-      | yes h ↦ rw (lt-ltb a k h) (f h)
-      | no h ↦ let l : k ≤ a = omega arith in rw (le-ltb a k l) (g l)
-    ]
-
-picked-at : (P : ℕ → Type 0) {x y : ℕ} (a k : ℕ) → (a ≡ k → P x) → ((a ≡ k → ⊥) → P y) → P (cond (eqb a k) x y)
-picked-at P a k f g =
-    elim (ℕ-discrete a k) [
-      | yes e ↦ rw (eq-eqb a k e) (f e)
-      | no n ↦ rw (ne-eqb a k n) (g n)
-    ]
-
--- ---- the bytes of one character
--- a byte behind the first of a character
-abbrev Tail : ℕ → Type 0
-Tail b = b / 64 ≡ 2
-
--- a number and the lowest six bits of the byte b
-abbrev more : ℕ → ℕ → ℕ
-more n b = n * 0x40 + (b - 0x80)
-
--- the bytes of the number c, one to four
-data Character (c : ℕ) : List ℕ → Type 0 where
-  one : c < 0x80 → Character c (c ∷ [])
-  two : (a b : ℕ) → 0xC2 ≤ a → a < 0xE0 → Tail b → c ≡ more (a - 0xC0) b → Character c (a ∷ b ∷ [])
-  three : (a b d : ℕ) → 0xE0 ≤ a → a < 0xF0 → Tail b → Tail d → 0x800 ≤ c → c ≡ more (more (a - 0xE0) b) d → Character c (a ∷ b ∷ d ∷ [])
-  four : (a b d e : ℕ) → 0xF0 ≤ a → Tail b → Tail d → Tail e → 0x10000 ≤ c → c ≡ more (more (more (a - 0xF0) b) d) e → Character c (a ∷ b ∷ d ∷ e ∷ [])
-
-encoded-as : {c : ℕ} {s : List ℕ} → Character c s → encoded c ≡ s
-unfolding encoded
-encoded-as {c} (one h) = rw (lt-ltb c 0x80 h)
-encoded-as {c} (two a b l h hb e) =
-    let first : 0xC0 + c / 0x40 ≡ a = omega arith in
-    let second : tail c ≡ b = omega arith in
-    rw (le-ltb c 0x80 (omega arith), lt-ltb c 0x800 (omega arith), first, second)
-encoded-as {c} (three a b d l h hb hd low e) =
-    let first : 0xE0 + c / 0x1000 ≡ a = omega arith in
-    let upper : c / 0x40 ≡ more (a - 0xE0) b = omega arith in
-    let second : tail (more (a - 0xE0) b) ≡ b = omega arith in
-    let third : tail c ≡ d = omega arith in
-    rw (le-ltb c 0x80 (omega arith), le-ltb c 0x800 low, lt-ltb c 0x10000 (omega arith), first, upper, second, third)
-encoded-as {c} (four a b d f l hb hd hf low e) =
-    let first : 0xF0 + c / 0x40000 ≡ a = omega arith in
-    let upmost : c / 0x1000 ≡ more (a - 0xF0) b = omega arith in
-    let second : tail (more (a - 0xF0) b) ≡ b = omega arith in
-    let upper : c / 0x40 ≡ more (more (a - 0xF0) b) d = omega arith in
-    let third : tail (more (more (a - 0xF0) b) d) ≡ d = omega arith in
-    let fourth : tail c ≡ f = omega arith in
-    rw (le-ltb c 0x80 (omega arith), le-ltb c 0x800 (omega arith), le-ltb c 0x10000 low, first, upmost, second, upper, third, fourth)
-
--- every number has such bytes
-character : (c : ℕ) → Character c (encoded c)
-unfolding encoded
-character c =
-    picked-below (Character c) c 0x80 one (λ g.
-    picked-below (Character c) c 0x800
-    (λ h. two (0xC0 + c / 0x40) (tail c) (omega arith) (omega arith) (omega arith) (omega arith)) (λ g.
-    picked-below (Character c) c 0x10000
-    (λ h. three (0xE0 + c / 0x1000) (tail (c / 0x40)) (tail c) (omega arith) (omega arith) (omega arith) (omega arith) g (omega arith)) (λ g.
-    let upmost : c / 0x1000 / 0x40 ≡ c / 0x40000 = omega arith in
-    let upper : c / 0x40 / 0x40 ≡ c / 0x1000 = omega arith in
-    four (0xF0 + c / 0x40000) (tail (c / 0x1000)) (tail (c / 0x40)) (tail c) (omega arith) (omega arith) (omega arith) (omega arith) g (omega arith))))
-
--- the number of the character at the start of bytes
-number : List ℕ → ℕ
-number s =
-    cond (ltb (getD s 0 0) 0x80) (getD s 0 0)
-    (cond (ltb (getD s 0 0) 0xE0) (more (getD s 0 0 - 0xC0) (getD s 1 0))
-    (cond (ltb (getD s 0 0) 0xF0) (more (more (getD s 0 0 - 0xE0) (getD s 1 0)) (getD s 2 0))
-    (more (more (more (getD s 0 0 - 0xF0) (getD s 1 0)) (getD s 2 0)) (getD s 3 0))))
-
-number-read : {c : ℕ} {s : List ℕ} (t : List ℕ) → Character c s → number (s ++ t) ≡ c
-unfolding number
-number-read {c} t (one h) = rw (lt-ltb c 0x80 h)
-number-read t (two a b l h hb e) = rw (le-ltb a 0x80 (omega arith), lt-ltb a 0xE0 h) (sym e)
-number-read t (three a b d l h hb hd low e) = rw (le-ltb a 0x80 (omega arith), le-ltb a 0xE0 l, lt-ltb a 0xF0 h) (sym e)
-number-read t (four a b d f l hb hd hf low e) = rw (le-ltb a 0x80 (omega arith), le-ltb a 0xE0 (omega arith), le-ltb a 0xF0 l) (sym e)
-
--- bytes begin with one character only
-one-character : (c d : ℕ) (t u : List ℕ) → encoded c ++ t ≡ encoded d ++ u → (c ≡ d) × (t ≡ u)
-one-character c d t u e =
-    let same = sym (number-read t (character c)) ∙ ap number e ∙ number-read u (character d) in
-    (same, append-cancel-left (encoded d) t u (rw same at e))
-
--- ---- the syntax in section 4 of RFC 3629
--- the bounds of the byte b behind the first byte a
-pub record Second (a b : ℕ) : Type 0 where
-  pub least : leastSecond a ≤ b
-  pub most : b ≤ mostSecond a
-
--- there are n bytes, some, and the third and the fourth are no first ones
-pub record Others (s : List ℕ) (n : ℕ) : Type 0 where
-  pub some : 1 ≤ n
-  pub inside : n ≤ length s
-  pub third : 3 ≤ n → Tail (getD s 2 0)
-  pub fourth : 4 ≤ n → Tail (getD s 3 0)
-
--- s begins with n bytes that the syntax produces
-pub record Leading (s : List ℕ) (n : ℕ) : Type 0 where
-  pub size : sizeByFirst (getD s 0 0) ≡ n
-  pub second : 2 ≤ n → Second (getD s 0 0) (getD s 1 0)
-  pub others : Others s n
-
-module _ (P : ℕ → Type 0) (a : ℕ) where
-  size-by-first : (a < 0x80 → P 1) → (0x80 ≤ a → a < 0xC2 → P 0) → (0xC2 ≤ a → a < 0xE0 → P 2) → (0xE0 ≤ a → a < 0xF0 → P 3)
-      → (0xF0 ≤ a → a < 0xF5 → P 4) → (0xF5 ≤ a → P 0) → P (sizeByFirst a)
-  size-by-first f₁ f₂ f₃ f₄ f₅ f₆ =
-      picked-below P a 0x80 f₁ (λ h.
-      picked-below P a 0xC2 (f₂ h) (λ h.
-      picked-below P a 0xE0 (f₃ h) (λ h.
-      picked-below P a 0xF0 (f₄ h) (λ h.
-      picked-below P a 0xF5 (f₅ h) f₆))))
-
-  least-second : (a ≡ 0xE0 → P 0xA0) → (a ≡ 0xF0 → P 0x90) → ((a ≡ 0xE0 → ⊥) → (a ≡ 0xF0 → ⊥) → P 0x80) → P (leastSecond a)
-  least-second f g h = picked-at P a 0xE0 f (λ n. picked-at P a 0xF0 g (h n))
-
-  most-second : (a ≡ 0xED → P 0x9F) → (a ≡ 0xF4 → P 0x8F) → ((a ≡ 0xED → ⊥) → (a ≡ 0xF4 → ⊥) → P 0xBF) → P (mostSecond a)
-  most-second f g h = picked-at P a 0xED f (λ n. picked-at P a 0xF4 g (h n))
-
--- the syntax produces the bytes of a code point
-produced : {c : ℕ} {s : List ℕ} (t : List ℕ) → CodePoint c → Character c s → Leading (s ++ t) (length s)
-produced {c} t p (one h) = record { size = rw (lt-ltb c 0x80 h); second = λ n. absurd (omega arith); others = omega arith }
-produced t p (two a b l h hb e) =
-    record {
-      size = rw (le-ltb a 0x80 (omega arith), le-ltb a 0xC2 l, lt-ltb a 0xE0 h);
-      second = λ n. record {
-        least = least-second (λ r. r ≤ b) a (λ q. omega arith) (λ q. omega arith) (λ q r. omega arith);
-        most = most-second (λ r. b ≤ r) a (λ q. omega arith) (λ q. omega arith) (λ q r. omega arith);
-      };
-      others = omega arith;
-    }
-produced {c} t p (three a b d l h hb hd low e) =
-    record {
-      size = rw (le-ltb a 0x80 (omega arith), le-ltb a 0xC2 (omega arith), le-ltb a 0xE0 l, lt-ltb a 0xF0 h);
-      second = λ n. record {
-        least = least-second (λ r. r ≤ b) a (λ q. omega arith) (λ q. omega arith) (λ q r. omega arith);
-        most = most-second (λ r. b ≤ r) a (λ q. ⊎-elim (λ k. omega arith) (λ k. omega arith) (p .0)) (λ q. omega arith) (λ q r. omega arith);
-      };
-      others = omega arith;
-    }
-produced {c} t p (four a b d f l hb hd hf low e) =
-    record {
-      size = rw (le-ltb a 0x80 (omega arith), le-ltb a 0xC2 (omega arith), le-ltb a 0xE0 (omega arith), le-ltb a 0xF0 l, lt-ltb a 0xF5 (omega arith));
-      second = λ n. record {
-        least = least-second (λ r. r ≤ b) a (λ q. omega arith) (λ q. omega arith) (λ q r. omega arith);
-        most = most-second (λ r. b ≤ r) a (λ q. omega arith) (λ q. omega arith) (λ q r. omega arith);
-      };
-      others = omega arith;
-    }
-
-second-tail : {a b : ℕ} → Second a b → Tail b
-second-tail {a} k =
-    let least = least-second (λ r. 0x80 ≤ r) a (λ q. omega arith) (λ q. omega arith) (λ q r. omega arith) in
-    let most = most-second (λ r. r ≤ 0xBF) a (λ q. omega arith) (λ q. omega arith) (λ q r. omega arith) in
-    omega arith
-
--- what the syntax produces are the bytes of a code point
-module _ {s : List ℕ} {n : ℕ} (l : Leading s n) where
-  read-as : (c : ℕ) → CodePoint c → Character c (take n s) → LeadSize s n
-  read-as c p k =
-      let e = encoded-as k in
-      leads c (drop n s) p (rw e (take-append-drop n s)) (rw e (sym (length-take-le n s (l .others .inside))))
-
-  read-one : getD s 0 0 < 0x80 → 1 ≡ n → LeadSize s n
-  read-one h e = read-as (getD s 0 0) (inl (omega arith), omega arith) (rw (← e, take-suc s 0 0 (omega arith)) (one h))
-
-  read-two : 0xC2 ≤ getD s 0 0 → getD s 0 0 < 0xE0 → 2 ≡ n → LeadSize s n
-  read-two low high e =
-      let a = getD s 0 0 in
-      let b = getD s 1 0 in
-      let hb = second-tail (l .second (omega arith)) in
-      read-as (more (a - 0xC0) b) (inl (omega arith), omega arith)
-      (rw (← e, take-suc s 1 0 (omega arith), take-suc s 0 0 (omega arith)) (two a b low high hb refl))
-
-  read-three : 0xE0 ≤ getD s 0 0 → getD s 0 0 < 0xF0 → 3 ≡ n → LeadSize s n
-  read-three low high e =
-      let a = getD s 0 0 in
-      let b = getD s 1 0 in
-      let d = getD s 2 0 in
-      let c = more (more (a - 0xE0) b) d in
-      let k = l .second (omega arith) in
-      let hb = second-tail k in
-      let hd = l .others .third (omega arith) in
-      let least = least-second (λ r. 0xE0 * 0x40 + 0xA0 ≤ a * 0x40 + r) a (λ q. omega arith) (λ q. omega arith) (λ q r. omega arith) in
-      let most =
-          most-second (λ r. 0xED * 0x40 + 0xA0 ≤ a * 0x40 + r → 0xEE ≤ a) a (λ q. omega arith) (λ q. omega arith) (λ q r. omega arith) in
-      let point : CodePoint c = (elim (decLt c 0xD800) [ yes h ↦ inl h | no h ↦ inr (omega (arith, most (omega arith))) ], omega arith) in
-      read-as c point
-      (rw (← e, take-suc s 2 0 (omega arith), take-suc s 1 0 (omega arith), take-suc s 0 0 (omega arith)) (three a b d low high hb hd (omega arith) refl))
-
-  read-four : 0xF0 ≤ getD s 0 0 → getD s 0 0 < 0xF5 → 4 ≡ n → LeadSize s n
-  read-four low high e =
-      let a = getD s 0 0 in
-      let b = getD s 1 0 in
-      let d = getD s 2 0 in
-      let f = getD s 3 0 in
-      let k = l .second (omega arith) in
-      let hb = second-tail k in
-      let hd = l .others .third (omega arith) in
-      let hf = l .others .fourth (omega arith) in
-      let least = least-second (λ r. 0xF0 * 0x40 + 0x90 ≤ a * 0x40 + r) a (λ q. omega arith) (λ q. omega arith) (λ q r. omega arith) in
-      let most = most-second (λ r. a * 0x40 + r ≤ 0xF4 * 0x40 + 0x8F) a (λ q. omega arith) (λ q. omega arith) (λ q r. omega arith) in
-      read-as (more (more (more (a - 0xF0) b) d) f) (inr (omega arith), omega arith)
-      (rw (← e, take-suc s 3 0 (omega arith), take-suc s 2 0 (omega arith), take-suc s 1 0 (omega arith), take-suc s 0 0 (omega arith))
-      (four a b d f low hb hd hf (omega arith) refl))
-
-  pub read : LeadSize s n
-  read =
-      let some = l .others .some in
-      size-by-first (λ r. r ≡ n → LeadSize s n) (getD s 0 0)
-      read-one (λ g h e. absurd (omega arith)) read-two read-three read-four (λ g e. absurd (omega arith)) (l .size)
-
-pub unread : (s : List ℕ) → ((n : ℕ) → Leading s n → ⊥) → LeadSize s 0
-unread s none = leadless (λ c t p e. none (length (encoded c)) (rw e at (produced t p (character c)))) refl
-
--- a first byte of no character, or of one alone
-pub short : {s : List ℕ} {n : ℕ} → sizeByFirst (getD s 0 0) ≡ n → n ≤ length s → n < 2 → LeadSize s n
-short {s} {n} e inside h =
-    elim (ℕ-discrete n 0) [
-      | yes z ↦ rw z (unread s (λ k l. omega arith))
-      | no z ↦ read (omega arith)
-    ]
-
-pub at-most-four : (a : ℕ) → sizeByFirst a ≤ 4
-at-most-four a =
-    size-by-first (λ r. r ≤ 4) a
-    (λ h. omega arith) (λ g h. omega arith) (λ g h. omega arith) (λ g h. omega arith) (λ g h. omega arith) (λ g. omega arith)
+use lib.Dec.{eqb}
+use lib.ListN.{length, take, drop, getD, length-append, length-drop, drop-of-length-le, List·getD-append}
+use lib.Seq.{slice, append-snoc, take-all, take-at, drop-at, drop-append-seam, drop-cons, drop-drop, length-take-le, getD-append-add}
+use borrow.Author.Tests.{le-leb, lt-leb, eq-eqb, ne-eqb}
+use Rattle.marks.proofs.utf8.Character.{Character, one, two, three, four, in-bytes, ascii-byte, one-character}
+use Rattle.marks.specs.Steps.{LeadSize, leads, leadless}
+use Rattle.marks.specs.Utf8.{encoded, spelled, CodePoints, Spells, IsUtf8, charactersBefore, starts}
 
 -- ---- characters one behind the other
 pub spelled-append : (xs ys : List ℕ) → spelled (xs ++ ys) ≡ spelled xs ++ spelled ys
@@ -268,18 +37,19 @@ points-split (x ∷ xs) ys p = let q = points-split xs ys (p .1) in ((p .0, q .0
 -- a character has bytes, and one that is not ASCII two or more
 sized : {c : ℕ} {s : List ℕ} → Character c s → (1 ≤ length s) × (0x80 ≤ c → 2 ≤ length s)
 sized (one h) = omega arith
-sized (two a b l h hb e) = omega arith
-sized (three a b d l h hb hd low e) = omega arith
-sized (four a b d f l hb hd hf low e) = omega arith
+sized (two a b h) = omega arith
+sized (three a b d h) = omega arith
+sized (four a b d e h) = omega arith
 
 some-bytes : (c : ℕ) → 1 ≤ length (encoded c)
-some-bytes c = sized (character c) .0
+some-bytes c = sized (in-bytes c) .0
 
 spelled-length : (cs : List ℕ) → length cs ≤ length (spelled cs)
 unfolding spelled
 spelled-length [] = omega arith
 spelled-length (c ∷ cs) = rw (length-append (encoded c) (spelled cs)) (omega (arith, some-bytes c, spelled-length cs))
 
+-- a character is not spelled by no bytes
 no-character : {A : Type 0} (c : ℕ) (t : List ℕ) → [] ≡ encoded c ++ t → A
 no-character c t e = absurd (omega (arith, some-bytes c, ap length e ∙ length-append (encoded c) t))
 
@@ -307,27 +77,30 @@ starts-append (b ∷ s) t = go (eqb (b / 64) 2) (starts-append s t)
     go true e = e
     go false e = omega arith
 
-starts-character : {c : ℕ} {s : List ℕ} → c ≤ 0x10FFFF → Character c s → starts s ≡ 1
+-- a character has one byte that begins it
+starts-once : {c : ℕ} {s : List ℕ} → c ≤ 0x10FFFF → Character c s → starts s ≡ 1
 unfolding starts
-starts-character {c} p (one h) = rw (ne-eqb (c / 64) 2 (omega arith))
-starts-character p (two a b l h hb e) = rw (ne-eqb (a / 64) 2 (omega arith), eq-eqb (b / 64) 2 hb)
-starts-character p (three a b d l h hb hd low e) = rw (ne-eqb (a / 64) 2 (omega arith), eq-eqb (b / 64) 2 hb, eq-eqb (d / 64) 2 hd)
-starts-character p (four a b d f l hb hd hf low e) =
-    rw (ne-eqb (a / 64) 2 (omega arith), eq-eqb (b / 64) 2 hb, eq-eqb (d / 64) 2 hd, eq-eqb (f / 64) 2 hf)
+starts-once {c} p (one h) = rw (ne-eqb (c / 64) 2 (omega arith))
+starts-once p (two a b h) = rw (ne-eqb (a / 64) 2 (omega arith), eq-eqb (b / 64) 2 (h .second))
+starts-once p (three a b d h) = rw (ne-eqb (a / 64) 2 (omega arith), eq-eqb (b / 64) 2 (h .second), eq-eqb (d / 64) 2 (h .third))
+starts-once p (four a b d e h) =
+    rw (ne-eqb (a / 64) 2 (omega arith), eq-eqb (b / 64) 2 (h .second), eq-eqb (d / 64) 2 (h .third), eq-eqb (e / 64) 2 (h .fourth))
 
 -- as many bytes begin a character as there are characters
 pub starts-spelled : (cs : List ℕ) → CodePoints cs → starts (spelled cs) ≡ length cs
 unfolding starts spelled
 starts-spelled [] p = refl
 starts-spelled (c ∷ cs) p =
-    starts-append (encoded c) (spelled cs) ∙ rw (starts-character (p .0 .1) (character c), starts-spelled cs (p .1)) (omega arith)
+    starts-append (encoded c) (spelled cs) ∙ rw (starts-once (p .0 .1) (in-bytes c), starts-spelled cs (p .1)) (omega arith)
 
 -- ---- characters before a byte place
+-- before the first byte there are none
 before-none : (cs : List ℕ) → charactersBefore 0 cs ≡ 0
 unfolding charactersBefore
 before-none [] = refl
 before-none (c ∷ cs) = rw (lt-leb (length (encoded c)) 0 (some-bytes c))
 
+-- those before a place behind xs are xs and those behind them
 before-append : (xs ys : List ℕ) (i : ℕ) → length (spelled xs) ≤ i
     → charactersBefore i (xs ++ ys) ≡ length xs + charactersBefore (i - length (spelled xs)) ys
 unfolding spelled charactersBefore
@@ -337,6 +110,7 @@ before-append (x ∷ xs) ys i h =
     let e : i - length (encoded x ++ spelled xs) ≡ i - length (encoded x) - length (spelled xs) = omega arith in
     rw (le-leb (length (encoded x)) i (omega arith), before-append xs ys (i - length (encoded x)) (omega arith), e) (omega arith)
 
+-- before the end of xs there are as many as xs has
 pub before-split : (xs ys : List ℕ) → charactersBefore (length (spelled xs)) (xs ++ ys) ≡ length xs
 before-split xs ys =
     before-append xs ys (length (spelled xs)) (le-refl (length (spelled xs)))
@@ -353,6 +127,7 @@ before-few (c ∷ cs) i =
           rw (le-leb (length (encoded c)) i (omega arith)) (omega (arith, some-bytes c, before-few cs (i - length (encoded c))))
     ]
 
+-- every code point is ASCII
 abbrev pub Ascii : List ℕ → Type 0
 Ascii [] = Unit
 Ascii (c ∷ cs) = (c < 0x80) × Ascii cs
@@ -363,17 +138,17 @@ unfolding spelled charactersBefore
 ascii-counts [] i p a h = omega arith
 ascii-counts (c ∷ cs) zero p a h = before-none (c ∷ cs)
 ascii-counts (c ∷ cs) (suc i) p a h =
-    let e = encoded-as (one (a .0)) in
+    let e = ascii-byte c (a .0) in
     let k : suc i - 1 ≡ i = omega arith in
     rw (e, le-leb 1 (suc i) (omega arith), k) (ap suc (ascii-counts cs i (p .1) (a .1) (omega (arith, rw e at h))))
 
--- behind a longer character the two counts differ
+-- behind the first longer character the two counts differ
 pub longer-differs : (xs : List ℕ) (c : ℕ) (ys : List ℕ) (i : ℕ) → Ascii xs → 0x80 ≤ c → length (spelled (xs ++ c ∷ [])) ≤ i
     → charactersBefore i (xs ++ c ∷ ys) < i
 longer-differs xs c ys i a long h =
     let e = rw (append-snoc xs c ys) at (before-append (xs ++ c ∷ []) ys i h) in
     let few = before-few ys (i - length (spelled (xs ++ c ∷ []))) in
-    omega (arith, length-append xs (c ∷ []), spelled-last xs c, spelled-length xs, sized (character c) .1 long)
+    omega (arith, length-append xs (c ∷ []), spelled-last xs c, spelled-length xs, sized (in-bytes c) .1 long)
 
 -- ---- places between characters
 -- the byte place i stands between characters
@@ -385,6 +160,7 @@ pub record Split (cs s : List ℕ) (i : ℕ) : Type 0 where
   pub after : drop i s ≡ spelled back
   pub inside : i ≤ length s
 
+-- code points are split where their spelling is
 split-of : {cs s : List ℕ} {i : ℕ} → Spells cs s → (xs ys : List ℕ) → cs ≡ xs ++ ys → length (spelled xs) ≡ i → Split cs s i
 split-of {i = i} k xs ys w l =
     let e = sym (k .bytes) ∙ ap spelled w ∙ spelled-append xs ys in
@@ -397,7 +173,7 @@ split-of {i = i} k xs ys w l =
       inside = omega (arith, ap length e ∙ length-append (spelled xs) (spelled ys));
     }
 
--- a byte below 0x80 is a character of its own
+-- the byte at the place i is the one of an ASCII character
 record Alone (cs : List ℕ) (i : ℕ) : Type 0 where
   front : List ℕ
   point : ℕ
@@ -406,16 +182,16 @@ record Alone (cs : List ℕ) (i : ℕ) : Type 0 where
   place : length (spelled front) ≡ i
   low : point < 0x80
 
--- the bytes of a longer character are 0x80 or more
 abbrev High : List ℕ → Type 0
 High [] = Unit
 High (b ∷ s) = (0x80 ≤ b) × High s
 
+-- the bytes of a longer character are 0x80 or more
 high : {c : ℕ} {s : List ℕ} → 0x80 ≤ c → Character c s → High s
 high g (one h) = absurd (omega arith)
-high g (two a b l h hb e) = omega arith
-high g (three a b d l h hb hd low e) = omega arith
-high g (four a b d f l hb hd hf low e) = omega arith
+high g (two a b h) = omega arith
+high g (three a b d h) = omega arith
+high g (four a b d e h) = omega arith
 
 high-at : (s : List ℕ) (i : ℕ) → High s → i < length s → 0x80 ≤ getD s i 0
 high-at [] i g h = absurd (omega arith)
@@ -443,10 +219,10 @@ alone (c ∷ cs) i h b =
       | yes m ↦
           elim (decLt c 0x80) [
             | yes low ↦
-                let single = ap length (encoded-as (one low)) in
+                let single = ap length (ascii-byte c low) in
                 record { front = []; point = c; back = cs; whole = refl; place = omega arith; low = low }
             | no g ↦
-                absurd (omega (arith, high-at (encoded c) i (high (omega arith) (character c)) m, List·getD-append (encoded c) (spelled cs) 0 i m))
+                absurd (omega (arith, high-at (encoded c) i (high (omega arith) (in-bytes c)) m, List·getD-append (encoded c) (spelled cs) 0 i m))
           ]
       | no m ↦
           let k = i - length (encoded c) in
@@ -454,12 +230,14 @@ alone (c ∷ cs) i h b =
           alone-behind c (alone cs k (omega arith) (rw (← e, getD-append-add (encoded c) (spelled cs) k 0) at b)) e
     ]
 
-pub ascii-splits : {cs s : List ℕ} (i : ℕ) → Spells cs s → i < length s → getD s i 0 < 0x80 → Split cs s i × Split cs s (i + 1)
-ascii-splits {cs} i k h b =
-    let p = alone cs i (rw (k .bytes) h) (rw (k .bytes) b) in
-    (split-of k (p .front) (p .point ∷ p .back) (p .whole) (p .place),
-    split-of k (p .front ++ p .point ∷ []) (p .back) (p .whole ∙ sym (append-snoc (p .front) (p .point) (p .back)))
-    (spelled-last (p .front) (p .point) ∙ rw (p .place, encoded-as (one (p .low)))))
+-- a byte below 0x80 is a character of its own
+pub ascii-splits : {cs s : List ℕ} {i : ℕ} → Spells cs s → i < length s → getD s i 0 < 0x80 → Split cs s i × Split cs s (i + 1)
+ascii-splits {cs} {i = i} k h b =
+    let p = alone cs i (rw (k .bytes) h) (rw (k .bytes) b) in (
+      split-of k (p .front) (p .point ∷ p .back) (p .whole) (p .place),
+      split-of k (p .front ++ p .point ∷ []) (p .back) (p .whole ∙ sym (append-snoc (p .front) (p .point) (p .back)))
+          (spelled-last (p .front) (p .point) ∙ rw (p .place, ascii-byte (p .point) (p .low))),
+    )
 
 module _ {cs s : List ℕ} {i : ℕ} (p : Split cs s i) where
   front-length : length (spelled (p .front)) ≡ i
@@ -490,18 +268,19 @@ longer-front (x ∷ xs) (y ∷ ys) us vs e h =
     let p = longer-front xs ys us vs behind (omega arith) in
     (p .0, cc (p .1))
 
--- between two such places stand whole characters
+-- between two such places stand whole characters, by as many as the counts before them differ
 pub between-splits : {cs s : List ℕ} {i j : ℕ} → Spells cs s → Split cs s i → Split cs s j → i ≤ j
     → (ts : List ℕ) × Spells ts (slice i j s) × (charactersBefore j cs ≡ charactersBefore i cs + length ts)
 between-splits {i = i} k p q h =
     let f = longer-front (p .front) (q .front) (p .back) (q .back) (sym (p .whole) ∙ q .whole) (omega (arith, front-length p, front-length q)) in
-    let bytes = q .before ∙ ap spelled (f .1) ∙ spelled-append (p .front) (f .0) in
-    (f .0,
-    record {
-      points = points-split (p .front) (f .0) (rw (f .1) at (front-points q (k .points))) .1;
-      bytes = sym (ap (drop i) bytes ∙ drop-at (spelled (p .front)) (spelled (f .0)) i (front-length p));
-    },
-    front-counts q ∙ ap length (f .1) ∙ length-append (p .front) (f .0) ∙ ap (λ (n : ℕ). n + length (f .0)) (sym (front-counts p)))
+    let bytes = q .before ∙ ap spelled (f .1) ∙ spelled-append (p .front) (f .0) in (
+      f .0,
+      record {
+        points = points-split (p .front) (f .0) (rw (f .1) at (front-points q (k .points))) .1;
+        bytes = sym (ap (drop i) bytes ∙ drop-at (spelled (p .front)) (spelled (f .0)) i (front-length p));
+      },
+      front-counts q ∙ ap length (f .1) ∙ length-append (p .front) (f .0) ∙ ap (λ (n : ℕ). n + length (f .0)) (sym (front-counts p)),
+    )
 
 -- ---- reading character by character
 -- what a slice from i on holds
@@ -519,26 +298,27 @@ pub record Sofar (s : List ℕ) (i : ℕ) : Type 0 where
 pub at-first : (s : List ℕ) → Sofar s 0
 at-first s = record { inside = omega arith; whole = λ u. u; part = λ u. u }
 
-behind : (c : ℕ) (t cs : List ℕ) → Spells cs (encoded c ++ t) → IsUtf8 t
+-- what stands behind the first character of UTF-8 is UTF-8
+behind-first : (c : ℕ) (t cs : List ℕ) → Spells cs (encoded c ++ t) → IsUtf8 t
 unfolding spelled
-behind c t [] k = no-character c t (k .bytes)
-behind c t (d ∷ ds) k = (ds, record { points = k .points .1; bytes = one-character d c (spelled ds) t (k .bytes) .1 })
+behind-first c t [] k = no-character c t (k .bytes)
+behind-first c t (d ∷ ds) k = (ds, record { points = k .points .1; bytes = one-character d c (spelled ds) t (k .bytes) .1 })
 
-module _ {s : List ℕ} {i r : ℕ} (f : Sofar s i) where
+module _ {s : List ℕ} {i : ℕ} (f : Sofar s i) where
   -- a character more
-  pub another : LeadSize (drop i s) r → (r ≡ 0 → ⊥) → Sofar s (i + r)
+  pub another : {r : ℕ} → LeadSize (drop i s) r → (r ≡ 0 → ⊥) → Sofar s (i + r)
   unfolding spelled
-  another (leads c t p e l) n =
-      let b : t ≡ drop (i + r) s = rw l (sym (drop-append-seam (encoded c) t) ∙ ap (drop (length (encoded c))) e ∙ drop-drop (length (encoded c)) i s) in
+  another {r} (leads c t p e l) n =
+      let seam = drop-append-seam (encoded c) t in
+      let b : t ≡ drop (i + r) s = rw l (sym seam ∙ ap (drop (length (encoded c))) e ∙ drop-drop (length (encoded c)) i s) in
       record {
         inside = omega (arith, f .inside, sym (length-append (encoded c) t) ∙ ap length e ∙ length-drop i s);
         whole = λ u. f .whole (rw (← e) (c ∷ u .0, record { points = (p, u .1 .points); bytes = rw (b, u .1 .bytes) }));
-        part = λ u. rw (← b) (behind c t (f .part u .0) (rw e (f .part u .1)));
+        part = λ u. rw (← b) (behind-first c t (f .part u .0) (rw e (f .part u .1)));
       }
   another (leadless none e) n = absurd (n e)
 
-module _ {s : List ℕ} {i : ℕ} (f : Sofar s i) where
-  -- where no character stands the bytes are not UTF-8
+  -- where no character begins, the bytes are not UTF-8
   pub refused : i < length s → LeadSize (drop i s) 0 → IsUtf8 s → ⊥
   unfolding spelled
   refused h (leads c t p e l) u = omega (arith, some-bytes c)
@@ -548,16 +328,18 @@ module _ {s : List ℕ} {i : ℕ} (f : Sofar s i) where
       go [] k = omega (arith, ap length (k .bytes), length-drop i s)
       go (c ∷ cs) k = none c (spelled cs) (k .points .0) (k .bytes)
 
+  -- where all bytes are passed, they are UTF-8
   pub accepted : length s ≤ i → IsUtf8 s
   unfolding spelled
   accepted h = f .whole ([], record { points = tt; bytes = sym (drop-of-length-le s h) })
 
+-- a byte below 0x80 begins a character of one byte
 pub ascii-leads : (s : List ℕ) (i : ℕ) → i < length s → getD s i 0 < 0x80 → LeadSize (drop i s) 1
 ascii-leads s i h low =
-    let e = encoded-as (one low) in
+    let e = ascii-byte (getD s i 0) low in
     leads (getD s i 0) (drop (suc i) s) (inl (omega arith), omega arith) (rw e (sym (drop-cons s i 0 h))) (rw e)
 
--- one byte more is counted or passed
+-- a byte more is counted where it begins a character, and passed where it does not
 module _ (s : List ℕ) (i : ℕ) (h : i < length s) where
   pub counted : (getD s i 0 / 64 ≡ 2 → ⊥) → starts (drop i s) ≡ suc (starts (drop (i + 1) s))
   unfolding starts

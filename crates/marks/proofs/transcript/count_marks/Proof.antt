@@ -25,7 +25,7 @@ part-first-mark-start : tie.Need-part-first-mark-start Inv-loop μ-loop
 part-first-mark-start c = search (needs, c .loop .inv .1 .0 .inside)
 
 part-first-mark-end : tie.Need-part-first-mark-end Inv-loop μ-loop
-part-first-mark-end c = search (needs, c .loop .inv .1 .0 .inside)
+part-first-mark-end c = search needs
 
 returns : tie.Need-returns Inv-loop μ-loop
 returns c =

@@ -5,7 +5,7 @@ use native.Mathlib.Omega.{arith}
 use lib.ListN.{length, drop, drop-of-length-le}
 use borrow.Author.Needs.{needs}
 use Rattle.marks.proofs.utf8.Laws.{counted, passed}
-use Rattle.marks.specs.Steps.{starts}
+use Rattle.marks.specs.Utf8.{starts}
 use Rattle.marks.proofs.utf8.count_starts.Statement.{statement}
 use Rattle.marks.proofs.utf8.count_starts.Tie as tie
 

@@ -33,7 +33,7 @@ add-i-2 : tie.Need-add-i-2 Inv-loop μ-loop
 add-i-2 c = omega (arith, loop-again-2 c .inside)
 
 loop-less-2 : tie.Need-loop-less-2 Inv-loop μ-loop
-loop-less-2 c = omega (arith, loop-again-2 c .inside, c .if2 .left)
+loop-less-2 c = omega (arith, loop-again-2 c .inside)
 
 returns-2 : tie.Need-returns-2 Inv-loop μ-loop
 returns-2 c = accepted (c .before .loop .inv) (c .loop-test .left)

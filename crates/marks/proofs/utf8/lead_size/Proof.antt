@@ -1,7 +1,6 @@
 use native.Mathlib.Omega.{arith}
-use lib.ListN.{getD}
 use borrow.Author.Needs.{needs}
-use Rattle.marks.proofs.utf8.Laws.{read, unread, short, at-most-four}
+use Rattle.marks.proofs.utf8.Character.{read, unread, read-short}
 use Rattle.marks.proofs.utf8.lead_size.Statement.{statement}
 use Rattle.marks.proofs.utf8.lead_size.Tie as tie
 
@@ -12,7 +11,7 @@ returns-2 : tie.Need-returns-2
 returns-2 c = unread _ (λ n l. omega arith)
 
 returns-3 : tie.Need-returns-3
-returns-3 c = short (omega arith) (omega arith) (c .if3 .taken)
+returns-3 c = read-short (omega arith) (omega arith) (c .if3 .taken)
 
 returns-4 : tie.Need-returns-4
 returns-4 c = unread _ (λ n l. omega (arith, l .second (omega arith)))
@@ -24,16 +23,16 @@ returns-6 : tie.Need-returns-6
 returns-6 c = read (omega arith)
 
 returns-7 : tie.Need-returns-7
-returns-7 c = unread _ (λ n l. omega (arith, l .others .third (omega arith)))
+returns-7 c = unread _ (λ n l. omega (arith, l .third (omega arith)))
 
 returns-8 : tie.Need-returns-8
 returns-8 c = read (omega arith)
 
 returns-9 : tie.Need-returns-9
-returns-9 c = unread _ (λ n l. omega (arith, l .others .fourth (omega arith)))
+returns-9 c = unread _ (λ n l. omega (arith, l .fourth (omega arith)))
 
 returns-10 : tie.Need-returns-10
-returns-10 c = read (omega (arith, at-most-four (getD (c .before .before .before .before .before .before .before .before .before .before .before .before .before .before .before .before .before .args .text .now) 0 0)))
+returns-10 c = read (omega arith)
 
 pub lead-size-spec : {M : Type 1} → statement M
 lead-size-spec =
