@@ -43,10 +43,10 @@ one-output s t u h k = lines.one-output (linesOf s) t u h k
 -- Any two results of a block are one: the same numbers, and the same bytes in both buffers.
 pub one-block : (s b m n o p q : List ℕ) (r u : Progress) → AnswersBlock s b m o p r → AnswersBlock s b n o q u → (r ≡ u) × ((m ≡ n) × (p ≡ q))
 one-block s b m n o p q r u h k =
-    let output = one-written (endedLines [] s) o p q (r .written) (u .written) (h .output) (k .output) in
+    let output = one-written (Answers (endedLines [] s)) (lines.one-output (endedLines [] s)) o p q (r .written) (u .written) (h .output) (k .output) in
     let keeps = h .keeps ∙ sym (k .keeps) in
     (λ i. record { written = output .0 i; kept = keeps i }, (h .buffer ∙ sym (k .buffer), output .1))
 
 -- Any two results of the last line are one: the same number, and the same bytes in the buffer.
 pub one-last : (s o p q : List ℕ) (r u : ℕ) → AnswersLast s o p r → AnswersLast s o q u → (r ≡ u) × (p ≡ q)
-one-last s o p q r u h k = one-written (lastLine s) o p q r u h k
+one-last s o p q r u h k = one-written (Answers (lastLine s)) (lines.one-output (lastLine s)) o p q r u h k

@@ -11,23 +11,23 @@ use Rattle.answers.specs.declared.block.Progress.{Progress}
 abbrev pub kept : List ℕ → List ℕ
 kept s = take 121 s
 
--- the answers to the lines ls are written at the start of a buffer that has room for them, and n is how many bytes they have
-pub record Written (ls : List (List ℕ)) (before after : List ℕ) (n : ℕ) : Type 0 where
+-- a text that is such an output is written at the start of a buffer that has room for it, and n is how many bytes it has
+pub record Written (output : List ℕ → Type 0) (before after : List ℕ) (n : ℕ) : Type 0 where
   pub text : List ℕ
-  pub answers : Answers ls text
+  pub answers : output text
   pub room : length text ≤ length before
   pub count : n ≡ length text
   pub bytes : after ≡ over text before
 
 -- the lines that end in the bytes s of a buffer are answered, and what is kept of the open line stands at the buffer's start
 pub record AnswersBlock (s buffer-before buffer-after output-before output-after : List ℕ) (r : Progress) : Type 0 where
-  pub output : Written (endedLines [] s) output-before output-after (r .written)
+  pub output : Written (Answers (endedLines [] s)) output-before output-after (r .written)
   pub keeps : r .kept ≡ length (kept (openLine [] s))
   pub buffer : buffer-after ≡ over (kept (openLine [] s)) buffer-before
 
 -- the line s that no line feed ended, if there is one, is answered
 abbrev pub AnswersLast : List ℕ → (before after : List ℕ) → ℕ → Type 0
-AnswersLast s before after n = Written (lastLine s) before after n
+AnswersLast s before after n = Written (Answers (lastLine s)) before after n
 
 -- the bytes of all blocks, one behind the other
 abbrev pub joined : List (List ℕ) → List ℕ

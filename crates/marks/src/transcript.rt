@@ -91,7 +91,8 @@ fn fill_places(text: &[u8], places: &mut [u8])
             end,
             first,
             past,
-        } = next_mark(&text[at..]) else {
+        } = next_mark(&text[at..])
+        else {
             return;
         };
         let number = number_of_line(&text[at + start..at + end]);

@@ -349,13 +349,14 @@ module _ (n : ℕ) (b : List ℕ) {e : ℕ} (part : e ≡ min n (length b)) wher
           })
 
 -- ---- one result for each call
-pub one-written : (ls : List (List ℕ)) (o p q : List ℕ) (n m : ℕ) → Written ls o p n → Written ls o q m → (n ≡ m) × (p ≡ q)
-one-written ls o p q n m h k =
-    let text = one-output ls (h .text) (k .text) (h .answers) (k .answers) in
+pub one-written : (output : List ℕ → Type 0) → ((t u : List ℕ) → output t → output u → t ≡ u)
+    → (o p q : List ℕ) (n m : ℕ) → Written output o p n → Written output o q m → (n ≡ m) × (p ≡ q)
+one-written output one o p q n m h k =
+    let text = one (h .text) (k .text) (h .answers) (k .answers) in
     (h .count ∙ ap length text ∙ sym (k .count), h .bytes ∙ ap (λ (t : List ℕ). over t o) text ∙ sym (k .bytes))
 
 -- ---- lengths
-pub written-length : {ls : List (List ℕ)} {o p : List ℕ} {n : ℕ} → Written ls o p n → (length p ≡ length o) × (n ≤ length o)
+pub written-length : {output : List ℕ → Type 0} {o p : List ℕ} {n : ℕ} → Written output o p n → (length p ≡ length o) × (n ≤ length o)
 written-length {o = o} h =
     let all = ap length (h .bytes) ∙ over-length (h .text) o (h .room) in
     (all, omega (arith, h .count, h .room))
@@ -366,7 +367,7 @@ kept-length {s} {b} h room =
     (ap length (h .buffer) ∙ over-length (kept (openLine [] s)) b (omega arith), omega (arith, h .keeps))
 
 -- ---- what a call leaves in its buffers is a step of the run
-pub written-text : {ls : List (List ℕ)} {o p : List ℕ} {n : ℕ} → Written ls o p n → Answers ls (take n p)
-written-text {ls} {o} {p} {n} h =
+pub written-text : {output : List ℕ → Type 0} {o p : List ℕ} {n : ℕ} → Written output o p n → output (take n p)
+written-text {output} {o} {p} {n} h =
     let text : take n p ≡ h .text = rw (h .count, h .bytes) (take-append-seam (h .text) (drop (length (h .text)) o)) in
-    subst (Answers ls) (sym text) (h .answers)
+    subst output (sym text) (h .answers)

@@ -260,9 +260,9 @@ module _ {s : List ℕ} {start i : ℕ} (p : Scan s start i) where
       let pair-here = closes-here (p .clear) two-here in
       let k : suc (suc i) ≡ i + 2 = omega arith in
       let far : (m : Mark) → IsMark s m → i + 2 + 2 ≤ m .start = λ m h.
-          let low = p .shut z m h in
-          let more = past-two (omega arith) (not-start h i (pair-here .other)) (not-start h (suc i) (pair-here .other-next)) in
-          omega arith in
+      let low = p .shut z m h in
+      let more = past-two (omega arith) (not-start h i (pair-here .other)) (not-start h (suc i) (pair-here .other-next)) in
+      omega arith in
       record {
         clear = rw k at (clear-closed (p .clear) two-here);
         none = λ m h. omega (arith, far m h, h .forward);

@@ -106,8 +106,8 @@ not-more i j (x ∷ ms) (y ∷ ns) r q all =
       | inr h ↦
           let less = rise-low (suc (y .start)) ns x (q .1) h in
           let behind : (m : Mark) → In m (x ∷ ms) → In m ns = λ m k.
-              let low = rise-low (x .start) (x ∷ ms) m (omega arith, r .1) k in
-              not-first m y ns (omega arith) (all m k) in
+          let low = rise-low (x .start) (x ∷ ms) m (omega arith, r .1) k in
+          not-first m y ns (omega arith) (all m k) in
           let rest = not-more i (suc (y .start)) (x ∷ ms) ns r (q .1) behind in
           omega arith
     ]

@@ -213,17 +213,19 @@ module _ {s before : List ℕ} {place i characters : ℕ} {after : List ℕ} (p 
 
   pub fill-last : Fillable s (length before) → IsFirstMark (drop i s) NoMark → FillsPlaces s before after
   fill-last f none =
-      let room = within (p .marks) i (p .reached .upto) f in
-      (length (p .marks), record {
-        characters = p .points;
-        spells = p .spells;
-        marks = p .marks;
-        are-marks = upto-last (p .reached .upto) none;
-        count = refl;
-        text = p .text;
-        places = p .places;
-        bytes = p .bytes ∙ sets-start (p .text) before (omega (arith, p .size, p .whole));
-      })
+      let room = within (p .marks) i (p .reached .upto) f in (
+        length (p .marks),
+        record {
+          characters = p .points;
+          spells = p .spells;
+          marks = p .marks;
+          are-marks = upto-last (p .reached .upto) none;
+          count = refl;
+          text = p .text;
+          places = p .places;
+          bytes = p .bytes ∙ sets-start (p .text) before (omega (arith, p .size, p .whole));
+        },
+      )
 
   module _ (f : Fillable s (length before)) (m : Mark) (h : IsFirstMark (drop i s) (At m)) where
     more : Upto s (i + m .end + 2) (p .marks ++ shifted i m ∷ [])
