@@ -22,6 +22,7 @@ pub record PutsMark (s : List ℕ) (start end first past i : ℕ) (before after 
   pub is-answer : IsAnswer s answer
   pub behind : r ≡ i + length (markFields start end first past ++ answer)
   pub bytes : after ≡ sets before i (markFields start end first past ++ answer)
+  pub short : r ≤ i + 49
 
 -- the transcript s is UTF-8, and what is told of its marks has room
 pub record Answerable (s : List ℕ) (size : ℕ) : Type 0 where

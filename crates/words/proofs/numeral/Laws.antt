@@ -132,6 +132,10 @@ pub four-digits : (n : ℕ) → n ≤ 9999 → length (numeral n) ≤ 4
 unfolding tens
 four-digits n h = short 3 n (omega arith) (omega arith)
 
+pub five-digits : (n : ℕ) → n ≤ 99999 → length (numeral n) ≤ 5
+unfolding tens
+five-digits n h = short 4 n (omega arith) (omega arith)
+
 pub seven-digits : (n : ℕ) → n ≤ 9999999 → length (numeral n) ≤ 7
 unfolding tens
 seven-digits n h = short 6 n (omega arith) (omega arith)

@@ -1,72 +1,92 @@
+use mathlib.Core.List.{_++_}
+use Prim.Native.Nat.{_+_}
+use native.Mathlib.Omega.{arith}
 use borrow.Author.Needs.{needs}
+use Rattle.mark_answers.proofs.transcript.Laws.{Fields, no-field, next-field, answer-put}
+use Rattle.words.specs.Numeral.{field}
+use Rattle.words.specs.Text.{space}
+use Rattle.mark_answers.specs.Transcript.{markFields}
 use Rattle.mark_answers.proofs.transcript.put_mark.Statement.{statement}
 use Rattle.mark_answers.proofs.transcript.put_mark.Tie as tie
-use Rattle.mark_answers.proofs.transcript.put_mark.Reads as reads
-use Rattle.mark_answers.proofs.transcript.put_mark.Lts as lts
-use Rattle.dating.proofs.answer.put_answer.Reads as put-answer-reads
-use Rattle.dating.proofs.answer.put_field.Reads as put-field-reads
 
--- src/transcript.rt:29:23
-put-field-requires : tie.Need-put-field-requires
-put-field-requires c κs = search needs
+-- the fields that are put so far
+one : (c : tie.After-slice-known2)
+    → let a = c .before .before .before .before .before .before .args in
+    Fields (a .output .now) (a .at) 1 (field (a .start) space) (c .before .before .put-field .last .0) (a .at + c .before .before .put-field .result)
+one c =
+    let pre = c .before .before .before .before .before .before .pre in
+    next-field (no-field _ _) (pre .1) _ _ _ (omega arith) (pre .0 .start-few) (c .before .before .put-field .ensures)
 
--- src/transcript.rt:29:18
+two : (c : tie.After-slice-known3)
+    → let b = c .before .before .before .before in let a = b .before .before .before .before .before .before .args in
+    Fields (a .output .now) (a .at) 2 (field (a .start) space ++ field (a .end) space) (c .before .before .put-field2 .last .0)
+    (a .at + b .before .before .put-field .result + c .before .before .put-field2 .result)
+two c =
+    let b = c .before .before .before .before in
+    let pre = b .before .before .before .before .before .before .pre in
+    next-field (one b) (pre .1) _ _ _ (omega arith) (pre .0 .end-few) (c .before .before .put-field2 .ensures)
+
+three : (c : tie.After-slice-known4)
+    → let d = c .before .before .before .before in let b = d .before .before .before .before in
+    let a = b .before .before .before .before .before .before .args in
+    Fields (a .output .now) (a .at) 3 (field (a .start) space ++ field (a .end) space ++ field (a .first) space) (c .before .before .put-field3 .last .0)
+    (a .at + b .before .before .put-field .result + d .before .before .put-field2 .result + c .before .before .put-field3 .result)
+three c =
+    let d = c .before .before .before .before in
+    let pre = d .before .before .before .before .before .before .before .before .before .before .pre in
+    next-field (two d) (pre .1) _ _ _ (omega arith) (pre .0 .first-few) (c .before .before .put-field3 .ensures)
+
+four : (c : tie.After-slice-known5)
+    → let e = c .before .before .before .before in let d = e .before .before .before .before in let b = d .before .before .before .before in
+    let a = b .before .before .before .before .before .before .args in
+    Fields (a .output .now) (a .at) 4 (markFields (a .start) (a .end) (a .first) (a .past)) (c .before .before .put-field4 .last .0)
+    (a .at + b .before .before .put-field .result + d .before .before .put-field2 .result + e .before .before .put-field3 .result
+      + c .before .before .put-field4 .result)
+four c =
+    let e = c .before .before .before .before in
+    let pre = e .before .before .before .before .before .before .before .before .before .before .before .before .before .before .pre in
+    next-field (three e) (pre .1) _ _ _ (omega arith) (pre .0 .past-few) (c .before .before .put-field4 .ensures)
+
 add-end-at : tie.Need-add-end-at
-add-end-at c = ?
+add-end-at c = omega (arith, one c, c .before .before .before .before .before .before .pre .1)
 
--- src/transcript.rt:30:29
-put-field-requires-2 : tie.Need-put-field-requires-2
-put-field-requires-2 c κs = search needs
-
--- src/transcript.rt:30:20
 add-first-at : tie.Need-add-first-at
-add-first-at c = ?
+add-first-at c = omega (arith, two c, c .before .before .before .before .before .before .before .before .before .before .pre .1)
 
--- src/transcript.rt:31:30
-put-field-requires-3 : tie.Need-put-field-requires-3
-put-field-requires-3 c κs = search needs
-
--- src/transcript.rt:31:19
 add-past-at : tie.Need-add-past-at
-add-past-at c = ?
+add-past-at c =
+    let b = c .before .before .before .before .before .before .before .before in
+    omega (arith, three c, b .before .before .before .before .before .before .pre .1)
 
--- src/transcript.rt:32:31
-put-field-requires-4 : tie.Need-put-field-requires-4
-put-field-requires-4 c κs = search needs
-
--- src/transcript.rt:32:21
 add-answer-at : tie.Need-add-answer-at
-add-answer-at c = ?
+add-answer-at c =
+    let b = c .before .before .before .before .before .before .before .before .before .before .before .before in
+    omega (arith, four c, b .before .before .before .before .before .before .pre .1)
 
--- src/transcript.rt:33:17
-put-answer-requires : tie.Need-put-answer-requires
-put-answer-requires c κs = search needs
-
--- src/transcript.rt:33:5
-add-result : tie.Need-add-result
-add-result c = ?
-
--- src/transcript.rt:17:1
-same-length : tie.Need-same-length
-same-length c = search needs
-
--- src/transcript.rt:17:1
 returns : tie.Need-returns
-returns c = ?
+returns c =
+    let b = c .before .before .before .before .before .before .before .before .before .before .before .before .before .before .before .before in
+    answer-put _ _ _ _ _ _ _ (four (c .before .before .before .before)) (b .before .before .before .before .before .before .pre .1)
+    (c .before .before .put-answer .ensures)
+
+add-result : tie.Need-add-result
+add-result c =
+    let b = c .before .before .before .before .before .before .before .before .before .before .before .before .before .before .before .before in
+    omega (arith, returns c .short, b .before .before .before .before .before .before .pre .1)
 
 pub put-mark-spec : {M : Type 1} → statement M
 put-mark-spec =
     tie.close
     (tie.spec
-    put-field-requires
+    (λ c κs. search needs)
     add-end-at
-    put-field-requires-2
+    (λ c κs. search needs)
     add-first-at
-    put-field-requires-3
+    (λ c κs. search needs)
     add-past-at
-    put-field-requires-4
+    (λ c κs. search needs)
     add-answer-at
-    put-answer-requires
+    (λ c κs. search needs)
     add-result
-    same-length
+    (λ c. search needs)
     returns)
