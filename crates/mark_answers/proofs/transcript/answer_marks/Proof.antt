@@ -1,115 +1,122 @@
+use mathlib.Core.Path.{_≡_}
+use Prim.Native.Nat.{_+_, _-_}
+use native.Mathlib.Omega.{arith}
+use lib.ListN.{length, drop}
+use borrow.Author.Needs.{needs}
+use Rattle.marks.proofs.mark.Marks.{rest}
+use Rattle.marks.proofs.transcript.Laws.{Small}
+use Rattle.mark_answers.proofs.transcript.Laws.{Telling, tell-first, tell-length, tell-last, tell-small, tell-room, tell-next}
+use Rattle.marks.specs.Transcript.{IsNextMark}
+use Rattle.mark_answers.specs.Steps.{Answerable}
+use Rattle.marks.specs.declared.transcript.NextMark.the-variants.{Next}
 use Rattle.mark_answers.proofs.transcript.answer_marks.Statement.{statement}
 use Rattle.mark_answers.proofs.transcript.answer_marks.Tie as tie
-use Rattle.mark_answers.proofs.transcript.answer_marks.Reads as reads
-use Rattle.mark_answers.proofs.transcript.answer_marks.Lts as lts
-use Rattle.mark_answers.proofs.transcript.put_mark.Reads as put-mark-reads
-use Rattle.marks.proofs.transcript.next_mark.Reads as next-mark-reads
 
 abbrev Inv-loop : tie.InvT-loop
-Inv-loop text output₀ written₀ at₀ characters₀ output written at characters = ?
+Inv-loop text output₀ written₀ at₀ characters₀ output written at characters = Telling text output₀ written at characters output
 
 abbrev μ-loop : tie.MeasureT-loop
-μ-loop text output₀ written₀ at₀ characters₀ output written at characters = ?
+μ-loop text output₀ written₀ at₀ characters₀ output written at characters = length text - at
 
--- src/transcript.rt:44:5
 loop-holds : tie.Need-loop-holds Inv-loop μ-loop
-loop-holds c = ?
+loop-holds c = tell-first _ _ (c .before .before .pre .utf8)
 
--- src/transcript.rt:50:23
 sub-next-mark : tie.Need-sub-next-mark Inv-loop μ-loop
-sub-next-mark c = ?
+sub-next-mark c = c .loop .inv .reached .upto .inside
 
--- src/transcript.rt:50:23
 part-next-mark-start : tie.Need-part-next-mark-start Inv-loop μ-loop
-part-next-mark-start c = ?
+part-next-mark-start c = search (needs, c .loop .inv .reached .upto .inside)
 
--- src/transcript.rt:50:23
-part-next-mark-end : tie.Need-part-next-mark-end Inv-loop μ-loop
-part-next-mark-end c = ?
-
--- src/transcript.rt:50:13
-next-mark-requires : tie.Need-next-mark-requires Inv-loop μ-loop
-next-mark-requires c κs = ?
-
--- src/transcript.rt:46:13
-enum-known-start : tie.Need-enum-known-start Inv-loop μ-loop
-enum-known-start c = ?
-
--- src/transcript.rt:52:13
-enum-told : tie.Need-enum-told Inv-loop μ-loop
-enum-told c = ?
-
--- src/transcript.rt:52:13
 same-length : tie.Need-same-length Inv-loop μ-loop
-same-length c = ?
+same-length c = tell-length (c .before .before .before .before .loop .inv)
 
--- src/transcript.rt:52:13
 returns : tie.Need-returns Inv-loop μ-loop
-returns c = ?
+returns c =
+    let l = c .before .before .before .before in
+    let none = rw (c .enum-told .given .1, rest (l .loop .at) (l .before .before .before .args .text .now)) at (c .before .before .next-mark .ensures) in
+    tell-last (l .loop .inv) (l .before .before .before .pre) none
 
--- src/transcript.rt:55:19
+-- the mark that is found
+found : (c : tie.After-known-told Inv-loop μ-loop)
+    → let l = c .before .before .before .before .before in let m = c .before .start .given .0 in
+    IsNextMark (drop (l .loop .at) (l .before .before .before .args .text .now)) (Next (m .0) (m .1 .0) (m .1 .1 .0) (m .1 .1 .1 .0))
+found c =
+    let l = c .before .before .before .before .before in
+    rw (c .before .start .given .1, rest (l .loop .at) (l .before .before .before .args .text .now)) at (c .before .before .before .next-mark .ensures)
+
+answerable : (c : tie.After-known-told Inv-loop μ-loop)
+    → let a = c .before .before .before .before .before .before .before .before .args in Answerable (a .text .now) (length (a .output .now))
+answerable c = c .before .before .before .before .before .before .before .before .pre
+
+small : (c : tie.After-known-told Inv-loop μ-loop)
+    → let l = c .before .before .before .before .before in let m = c .before .start .given .0 in
+    Small (l .before .before .before .args .text .now) (l .loop .at) (l .loop .characters) (m .0) (m .1 .0) (m .1 .1 .0) (m .1 .1 .1 .0)
+small c = tell-small (c .before .before .before .before .before .loop .inv) (answerable c) _ _ _ _ (found c)
+
 add-put-mark : tie.Need-add-put-mark Inv-loop μ-loop
-add-put-mark c = ?
+add-put-mark c = omega (arith, small c)
 
--- src/transcript.rt:55:31
 add-put-mark-2 : tie.Need-add-put-mark-2 Inv-loop μ-loop
-add-put-mark-2 c = ?
+add-put-mark-2 c = omega (arith, small c)
 
--- src/transcript.rt:55:13
 sub-put-mark : tie.Need-sub-put-mark Inv-loop μ-loop
-sub-put-mark c = ?
+sub-put-mark c = omega (arith, small c)
 
--- src/transcript.rt:55:13
 part-put-mark-start : tie.Need-part-put-mark-start Inv-loop μ-loop
-part-put-mark-start c = ?
+part-put-mark-start c = search (needs, small c)
 
--- src/transcript.rt:55:13
 part-put-mark-end : tie.Need-part-put-mark-end Inv-loop μ-loop
-part-put-mark-end c = ?
+part-put-mark-end c = search (needs, small c)
 
--- src/transcript.rt:56:13
 add-put-mark-3 : tie.Need-add-put-mark-3 Inv-loop μ-loop
-add-put-mark-3 c = ?
+add-put-mark-3 c = omega (arith, small (c .before))
 
--- src/transcript.rt:57:13
 add-put-mark-4 : tie.Need-add-put-mark-4 Inv-loop μ-loop
-add-put-mark-4 c = ?
+add-put-mark-4 c = omega (arith, small (c .before))
 
--- src/transcript.rt:58:13
 add-put-mark-5 : tie.Need-add-put-mark-5 Inv-loop μ-loop
-add-put-mark-5 c = ?
+add-put-mark-5 c = omega (arith, small (c .before))
 
--- src/transcript.rt:59:13
 add-put-mark-6 : tie.Need-add-put-mark-6 Inv-loop μ-loop
-add-put-mark-6 c = ?
+add-put-mark-6 c = omega (arith, small (c .before))
 
--- src/transcript.rt:54:9
 put-mark-requires : tie.Need-put-mark-requires Inv-loop μ-loop
-put-mark-requires c κs = ?
+put-mark-requires c κs =
+    let k = c .before .before in
+    let few = small k in
+    let short = answerable k .short in (
+      record {
+        start-few = omega (arith, few, short);
+        end-few = omega (arith, few, short);
+        first-few = omega (arith, few, short);
+        past-few = omega (arith, few, short);
+      },
+      tell-room (k .before .before .before .before .before .loop .inv) (answerable k) _ _ _ _ (found k),
+    )
 
--- src/transcript.rt:63:15
 add-at : tie.Need-add-at Inv-loop μ-loop
-add-at c = ?
+add-at c = omega (arith, small (c .before .before .before .before .before))
 
--- src/transcript.rt:63:9
 add-at-2 : tie.Need-add-at-2 Inv-loop μ-loop
-add-at-2 c = ?
+add-at-2 c = omega (arith, small (c .before .before .before .before .before))
 
--- src/transcript.rt:64:23
 add-characters : tie.Need-add-characters Inv-loop μ-loop
-add-characters c = ?
+add-characters c = omega (arith, small (c .before .before .before .before .before))
 
--- src/transcript.rt:64:9
 add-characters-2 : tie.Need-add-characters-2 Inv-loop μ-loop
-add-characters-2 c = ?
+add-characters-2 c = omega (arith, small (c .before .before .before .before .before))
 
--- src/transcript.rt:44:5
 loop-less : tie.Need-loop-less Inv-loop μ-loop
-loop-less c = ?
+loop-less c = omega (arith, small (c .before .before .before .before .before))
 
--- src/transcript.rt:44:5
 loop-again : tie.Need-loop-again Inv-loop μ-loop
-loop-again c = ?
+loop-again c =
+    let k = c .before .before .before .before .before in
+    let l = k .before .before .before .before .before in
+    let m = k .before .start .given .0 in
+    let e : l .loop .at + m .1 .0 + 2 ≡ l .loop .at + (m .1 .0 + 2) = omega arith in
+    let f : l .loop .characters + m .1 .1 .1 .0 + 2 ≡ l .loop .characters + (m .1 .1 .1 .0 + 2) = omega arith in
+    rw (← e, ← f) (tell-next (l .loop .inv) (answerable k) _ _ _ _ (found k) _ _ (c .before .before .put-mark .ensures))
 
 pub answer-marks-spec : {M : Type 1} → statement M
 answer-marks-spec =
@@ -120,10 +127,7 @@ answer-marks-spec =
     loop-holds
     sub-next-mark
     part-next-mark-start
-    part-next-mark-end
-    next-mark-requires
-    enum-known-start
-    enum-told
+    (λ c. search needs) (λ c κs. search needs) (λ c. search needs) (λ c. search needs)
     same-length
     returns
     add-put-mark
