@@ -133,8 +133,7 @@ ending-counts {s} {m} h =
     let second = starts-append (take (m .end) s ++ getD s (m .end) 0 ∷ []) (getD s (suc (m .end)) 0 ∷ []) in
     rw (e, two-more, second, first, bytes .0, bytes .1) (omega arith)
 
-module _ {s cs : List ℕ} {i characters : ℕ} {ms : List Mark} (p : Reached s i characters ms) (spells : Spells cs s)
-    (m : Mark) (h : IsFirstMark (drop i s) (At m)) where
+module _ {s : List ℕ} {i characters : ℕ} {ms : List Mark} (p : Reached s i characters ms) (m : Mark) (h : IsFirstMark (drop i s) (At m)) where
   pub next-mark : IsMark s (shifted i m)
   next-mark = mark-on (p .upto .clear) m (h .0)
 
@@ -143,15 +142,16 @@ module _ {s cs : List ℕ} {i characters : ℕ} {ms : List Mark} (p : Reached s 
     to-past : characters + past ≡ starts (take (i + m .end) s)
     to-past = rw count-past (counted-on s i (m .end) characters (p .counted))
 
-    pub first-before : characters + first ≡ charactersBefore (i + m .start) cs
-    first-before =
-        rw count-first (counted-on s i (m .start) characters (p .counted) ∙ sym (characters-at spells (start-splits spells next-mark)))
-
-    pub past-before : characters + past ≡ charactersBefore (i + m .end) cs
-    past-before = to-past ∙ sym (characters-at spells (end-splits spells next-mark))
-
     pub reach-next : Reached s (i + m .end + 2) (characters + past + 2) (ms ++ shifted i m ∷ [])
     reach-next = record { upto = upto-next (p .upto) m h; counted = rw to-past (sym (ending-counts next-mark)) }
+
+    module _ {cs : List ℕ} (spells : Spells cs s) where
+      pub first-before : characters + first ≡ charactersBefore (i + m .start) cs
+      first-before =
+          rw count-first (counted-on s i (m .start) characters (p .counted) ∙ sym (characters-at spells (start-splits spells next-mark)))
+
+      pub past-before : characters + past ≡ charactersBefore (i + m .end) cs
+      past-before = to-past ∙ sym (characters-at spells (end-splits spells next-mark))
 
 -- the next mark lies inside, and no number of it is above the length
 pub record Small (s : List ℕ) (i characters start end first past : ℕ) : Type 0 where
@@ -250,14 +250,14 @@ module _ {s before : List ℕ} {place i characters : ℕ} {after : List ℕ} (p 
         let count = length-append (p .marks) (mark ∷ []) in
         let total = length-append (p .text) t in
         let line = rw (part (i + m .start) (i + m .end) s (omega (arith, h .0 .forward))) at number in
-        let its-first = first-before reached spells m h first past count-first count-past in
-        let its-past = past-before reached spells m h first past count-first count-past in
+        let its-first = first-before reached m h first past count-first count-past spells in
+        let its-past = past-before reached m h first past count-first count-past spells in
         let k : place ≡ 0 + length (p .text) = omega (arith, p .size) in
         record {
           points = p .points;
           spells = spells;
           marks = p .marks ++ mark ∷ [];
-          reached = reach-next reached spells m h first past count-first count-past;
+          reached = reach-next reached m h first past count-first count-past;
           text = p .text ++ t;
           places = places-on s (p .points) (p .marks) mark (p .text) t (p .places) (n, (line, rw (its-first, its-past)));
           size = omega (arith, p .size);
@@ -295,6 +295,11 @@ module _ (s : List ℕ) (size : ℕ) where
 
   pub no-refusal : (n : ℕ) → CountsInSize s size (Marks n) → TellsRefusal s size 0
   no-refusal n h = checked-on (told-by (Marks n)) (λ x. 0 ≡ refusalNumber x) (conditions s size) (λ x e. not-refused n x e) (λ k. refl) h
+
+  -- what is not refused is not too long
+  pub short-enough : (r : ℕ) → r ≡ 0 → TellsRefusal s size r → length s ≤ 65536
+  short-enough r z (inl h) = absurd (omega (arith, h .1))
+  short-enough r z (inr h) = h .0
 
   pub refused-by : (x : Refusal) (r : ℕ) → r ≡ refusalNumber x → CountsInSize s size (NoMarks x) → TellsRefusal s size r
   refused-by x r e h =

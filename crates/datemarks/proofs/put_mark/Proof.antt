@@ -2,12 +2,12 @@ use mathlib.Core.List.{_++_}
 use Prim.Native.Nat.{_+_}
 use native.Mathlib.Omega.{arith}
 use borrow.Author.Needs.{needs}
-use Rattle.mark_answers.proofs.transcript.Laws.{Fields, no-field, next-field, answer-put}
+use Rattle.datemarks.proofs.Fields.{Fields, no-field, next-field, answer-put}
 use Rattle.words.specs.Numeral.{field}
 use Rattle.words.specs.Text.{space}
-use Rattle.mark_answers.specs.Transcript.{markFields}
-use Rattle.mark_answers.proofs.transcript.put_mark.Statement.{statement}
-use Rattle.mark_answers.proofs.transcript.put_mark.Tie as tie
+use Rattle.datemarks.specs.Telling.{markFields}
+use Rattle.datemarks.proofs.put_mark.Statement.{statement}
+use Rattle.datemarks.proofs.put_mark.Tie as tie
 
 -- the fields that are put so far
 one : (c : tie.After-slice-known2)
@@ -41,7 +41,7 @@ four : (c : tie.After-slice-known5)
     let a = b .before .before .before .before .before .before .args in
     Fields (a .output .now) (a .at) 4 (markFields (a .start) (a .end) (a .first) (a .past)) (c .before .before .put-field4 .last .0)
     (a .at + b .before .before .put-field .result + d .before .before .put-field2 .result + e .before .before .put-field3 .result
-      + c .before .before .put-field4 .result)
+    + c .before .before .put-field4 .result)
 four c =
     let e = c .before .before .before .before in
     let pre = e .before .before .before .before .before .before .before .before .before .before .before .before .before .before .pre in

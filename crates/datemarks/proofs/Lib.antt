@@ -1,0 +1,2 @@
+-- Steps to what is told of a mark.
+mod Fields

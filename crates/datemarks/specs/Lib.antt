@@ -1,0 +1,2 @@
+-- What is told of one mark.
+pub mod Telling
