@@ -1,5 +1,5 @@
-// The calls from C, and nothing else. Each takes any numbers and any bytes and changes no byte; its
-// contract fixes the one number that it answers.
+// The calls from C, and nothing else. Each takes any numbers and any bytes; its contract fixes the one
+// number that it answers, and every byte of the places that it is lent.
 use calendar::date::day_of_date;
 use calendar::distance::distance_of_dates;
 use calendar::distance::distance_or_zero;
@@ -12,6 +12,9 @@ use church::feast::feast_of_year;
 use dating::line::number_of_line;
 use dating::part::part_of_line;
 use dating::part::place_of_part;
+use marks::transcript::find_marks;
+use marks::transcript::marks_or_zero;
+use marks::transcript::marks_refusal;
 ghost use mathlib.Core.Path.{_≡_};
 ghost use Rattle.calendar.specs.Date.{dayOfDate};
 ghost use Rattle.calendar.specs.Distance.{distanceOfDays, distanceRefusal, distanceOrZero};
@@ -20,6 +23,7 @@ ghost use Rattle.calendar.specs.Weekday.{weekdayOfDay, weekdayRefusal, weekdayO
 ghost use Rattle.church.specs.Feast.{feastOfYear};
 ghost use Rattle.dating.specs.Line.{IsNumberOfLine};
 ghost use Rattle.dating.specs.Part.{IsPartStart, IsPartLength};
+ghost use Rattle.marks.specs.Transcript.{FindsMarks, TellsRefusal};
 
 // The day of a dating line, or the refusal: 2, 3, 4, 5 or 6.
 #[no_mangle]
@@ -110,4 +114,20 @@ pub extern "C" fn qv_distance(
     ensures { λ r. ⌜ r ≡ distanceOrZero (distanceOfDays (dayOfDate style1 year1 month1 day1) (dayOfDate style2 year2 month2 day2)) ⌝ }
 {
     distance_or_zero(distance_of_dates(style1, year1, month1, day1, style2, year2, month2, day2))
+}
+
+// Puts each mark of a transcript in a place of its own, and answers how many there are; 0 where they are refused.
+#[no_mangle]
+pub extern "C" fn qv_marks(text: &[u8], places: &mut [u8]) -> usize
+    ensures { λ r. ⌜ FindsMarks (λ n. n) (λ x. 0) (now (text .entry)) (now (places .entry)) (now (places .exit)) r ⌝ }
+{
+    marks_or_zero(find_marks(text, places))
+}
+
+// Why the marks of a transcript are refused where places of so many bytes are lent: 2 or 9, or 0.
+#[no_mangle]
+pub extern "C" fn qv_marks_refusal(text: &[u8], size: usize) -> u32
+    ensures { λ r. ⌜ TellsRefusal (now (text .entry)) size r ⌝ }
+{
+    marks_refusal(text, size)
 }

@@ -331,8 +331,8 @@ module _ (s before : List ℕ) where
       (λ y e. (e, refl)) (λ k. not-refused (k .0) x (sym (k .1 .1))) h
 
 -- what is made of the answer is found so
-pub finds-map : {R Q : Type 0} (told : ℕ → R) (refused : Refusal → R) (f : R → Q) {s before after : List ℕ} (r : R)
+pub finds-map : {R Q : Type 0} (told : ℕ → R) (refused : Refusal → R) (f : R → Q) (s before after : List ℕ) (r : R)
     → FindsMarks told refused s before after r → FindsMarks (λ n. f (told n)) (λ x. f (refused x)) s before after (f r)
-finds-map told refused f {s} {before} {after} r h =
+finds-map told refused f s before after r h =
     checked-on (λ x. (r ≡ refused x) × (after ≡ before)) (λ x. (f r ≡ f (refused x)) × (after ≡ before)) (conditions s (length before))
     (λ x k. (ap f (k .0), k .1)) (λ k. (k .0, (k .1 .0, ap f (k .1 .1)))) h
