@@ -10,9 +10,10 @@ use native.Mathlib.Omega.{arith}
 use lib.ListN.{length, take, drop, getD, length-append, length-drop}
 use lib.Seq.{take-all, getD-drop}
 use Rattle.marks.proofs.mark.Laws.{either, clash, brackets-differ, two-bytes, two-not, two-inside, pair-two, apart, Clear, clear-first, clear-closed}
-use Rattle.marks.proofs.mark.Laws.{not-end, past-one, in-order}
+use Rattle.marks.proofs.mark.Laws.{not-end, past-one, in-order, Scan, scan-first, at-opening, at-closing, at-other, found, not-found}
 use Rattle.marks.specs.Mark.{two, pair, opening, closing, IsMark, In, RiseFrom, AreMarks, IsFirstMark}
 use Rattle.marks.specs.declared.mark.FirstMark.the-variants.{At, NoMark}
+use Rattle.marks.specs.declared.mark.FirstMark.{FirstMark}
 use Rattle.marks.specs.declared.mark.Mark.{Mark}
 
 -- ---- two marks of a text
@@ -289,3 +290,41 @@ module _ {s : List ℕ} {i : ℕ} {ms : List Mark} (p : Upto s i ms) where
 pub one-marks : {s : List ℕ} {ms ns : List Mark} → AreMarks s ms → AreMarks s ns → ms ≡ ns
 one-marks {ms = ms} {ns} p q =
     one-rising 0 0 ms ns (p .rise) (q .rise) (λ m h. q .each m .1 (p .each m .0 h)) (λ m h. p .each m .1 (q .each m .0 h))
+
+-- ---- every text has its marks
+-- the search for the first mark ends, with so many steps left
+first-from : (n : ℕ) (s : List ℕ) (start i : ℕ) → length s ≤ n + i → Scan s start i → (r : FirstMark) × IsFirstMark s r
+first-from zero s start i few p = (NoMark, not-found p (omega arith))
+first-from (suc n) s start i few p =
+    elim (either (two (code "[") s i)) [
+      | inl opens ↦ first-from n s (i + 2) (i + 2) (omega arith) (at-opening p opens)
+      | inr unopened ↦
+          elim (either (two (code "]") s i)) [
+            | inl closes ↦
+                elim (decLt 0 start) [
+                  | yes begun ↦ (At (record { start = start; end = i }), found p begun closes)
+                  | no shut ↦ first-from n s start (i + 2) (omega arith) (at-closing p (omega arith) closes)
+                ]
+            | inr unclosed ↦ first-from n s start (i + 1) (omega arith) (at-other p unopened unclosed)
+          ]
+    ]
+
+abbrev HasMarks : List ℕ → Type 0
+HasMarks s = (all : List Mark) × (AreMarks s all × (length all * 4 ≤ length s))
+
+-- the marks that end before the place i and those of the rest, where the next mark leads to all
+with-rest : {s : List ℕ} {i : ℕ} {ms : List Mark} → Upto s i ms → ((m : Mark) → IsFirstMark (drop i s) (At m) → HasMarks s)
+    → (r : FirstMark) × IsFirstMark (drop i s) r → HasMarks s
+with-rest p next (At m, first) = next m first
+with-rest {ms = ms} p next (NoMark, none) = (ms, (upto-last p none, omega (arith, p .few, p .inside)))
+
+all-from : (n : ℕ) (s : List ℕ) (i : ℕ) (ms : List Mark) → length s ≤ n + i → Upto s i ms → HasMarks s
+all-from zero s i ms few p =
+    with-rest p (λ m first. absurd (omega (arith, upto-next p m first .inside)))
+    (first-from (length (drop i s)) (drop i s) 0 0 (omega arith) (scan-first (drop i s)))
+all-from (suc n) s i ms few p =
+    with-rest p (λ m first. all-from n s (i + m .end + 2) (ms ++ shifted i m ∷ []) (omega arith) (upto-next p m first))
+    (first-from (length (drop i s)) (drop i s) 0 0 (omega arith) (scan-first (drop i s)))
+
+pub has-marks : (s : List ℕ) → (ms : List Mark) × (AreMarks s ms × (length ms * 4 ≤ length s))
+has-marks s = all-from (length s) s 0 [] (omega arith) (upto-first s)
