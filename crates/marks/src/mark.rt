@@ -47,8 +47,8 @@ pub fn first_mark(text: &[u8]) -> FirstMark
     while i < text.len() {
         let bracket = two_at(text, i);
         if bracket == b'[' {
-            i += 2;
-            start = i;
+            start = i + 2;
+            i += 2; // pairs do not overlap
         } else if bracket == b']' {
             if start != 0 {
                 return FirstMark::At(Mark { start, end: i });

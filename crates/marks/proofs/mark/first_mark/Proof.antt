@@ -30,10 +30,13 @@ closes : (c : tie.Then2 Inv-loop μ-loop)
     → let l = c .before .before .before .before in two (code "]") (l .before .before .args .text .now) (l .loop .i) ≡ true
 closes c = told-closing _ _ (sym (c .before .before .two-at .ensures) ∙ c .if2 .taken)
 
-add-i : tie.Need-add-i Inv-loop μ-loop
-add-i c =
+add-start : tie.Need-add-start Inv-loop μ-loop
+add-start c =
     let l = c .before .before .before in
     omega (arith, two-inside (code "[") (l .before .before .args .text .now) (l .loop .i) (omega arith) (opens c))
+
+add-i : tie.Need-add-i Inv-loop μ-loop
+add-i c = add-start c
 
 loop-less : tie.Need-loop-less Inv-loop μ-loop
 loop-less c = omega (arith, c .before .before .loop-test .taken)
@@ -78,6 +81,7 @@ first-mark-spec =
     μ-loop
     loop-holds
     two-at-requires
+    add-start
     add-i
     loop-less
     loop-again
