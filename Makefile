@@ -9,11 +9,12 @@ unexport PREFIX DESTDIR
 export QV_PREFIX := $(value PREFIX)
 export QV_DESTDIR := $(value DESTDIR)
 
-# The whole test; the last line is rt ci's 'N passed, 0 failed', behind which it is only recorded what the program was built from.
+# The whole test; the last line is rt ci's 'N passed, 0 failed', behind which it is only recorded what the programs were built from.
 check: tests
 	tests/anywhere
 	rt ci
 	@tests/built datelines
+	@tests/built datemarks
 
 # All of it but the proofs of every crate from nothing, the refused edits, and the same tests at another place.
 tests: kit
@@ -36,9 +37,10 @@ answers: kit
 lib: kit
 	rt staticlib qashmelvit
 
-# Header, archive, pkg-config file, program and manual pages, below DESTDIR and PREFIX.
+# Header, archive, pkg-config file, programs and manual pages, below DESTDIR and PREFIX.
 install: prefix lib
 	tests/built datelines
+	tests/built datemarks
 	packaging/install "$$QV_DESTDIR" "$$QV_PREFIX"
 
 uninstall:
