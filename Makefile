@@ -25,6 +25,7 @@ tests: kit
 	tests/c/run
 	tests/script
 	tests/program
+	tests/marks
 	tests/install
 	tests/examples
 
