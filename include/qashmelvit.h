@@ -1,7 +1,8 @@
 /*
  * Qashmelvit tells the day that a dating line of an old letter names, such as "tue after quasimodo 1587 G", in the Julian or in the
- * Gregorian style. Each call has one answer for every input, keeps nothing between calls, so that threads may call at once, and changes no
- * byte that it is lent. The archive libqashmelvit.a is for x86-64, and is linked by
+ * Gregorian style, and finds the dating lines that are marked in a transcript. Each call has one answer for every input, keeps nothing
+ * between calls, so that threads may call at once, and changes no byte that it is lent, but for the places that qv_marks fills. The archive
+ * libqashmelvit.a is for x86-64, and is linked by
  *
  *     cc -o tag tag.c $(pkg-config --cflags --libs qashmelvit)
  *
@@ -53,7 +54,7 @@
  *
  * Advent is the Sunday from 27 November to 3 December.
  *
- * The indented lines above each call are examples, expressions that hold.
+ * The last indented lines above each call are examples, expressions that hold.
  */
 #ifndef QASHMELVIT_H
 #define QASHMELVIT_H
@@ -69,13 +70,14 @@ extern "C" {
 #define QV_JULIAN 1
 #define QV_GREGORIAN 2
 
-/* The refusals, in the order of checking. */
-#define QV_NAME 1   /* no such style or feast number */
-#define QV_LENGTH 2 /* a dating line of 0 or of more than 120 bytes */
-#define QV_FORM 3   /* no dating line by the grammar */
-#define QV_YEAR 4   /* J outside 1 to 9999, G outside 1582 to 9999, or G 1582 for a feast hung on Easter */
-#define QV_DATE 5   /* no such month, or no such day in that month of that year */
-#define QV_SPAN 6   /* a day outside the style's span */
+/* The refusals, in the order of checking; of a transcript its length is checked first, then QV_ENCODING, then its places. */
+#define QV_NAME 1     /* no such style or feast number */
+#define QV_LENGTH 2   /* a dating line of 0 or of more than 120 bytes, a transcript of more than 65,536 bytes, or fewer places than marks */
+#define QV_FORM 3     /* no dating line by the grammar */
+#define QV_YEAR 4     /* J outside 1 to 9999, G outside 1582 to 9999, or G 1582 for a feast hung on Easter */
+#define QV_DATE 5     /* no such month, or no such day in that month of that year */
+#define QV_SPAN 6     /* a day outside the style's span */
+#define QV_ENCODING 9 /* a transcript that is not UTF-8 */
 
 /* The first day of all: a call for a day that answers a smaller number refuses. */
 #define QV_FIRST_DAY 1721424
@@ -170,6 +172,65 @@ uint32_t qv_distance_refusal(uint64_t style1, uint64_t year1, uint64_t month1, u
  */
 int32_t qv_distance(uint64_t style1, uint64_t year1, uint64_t month1, uint64_t day1,
                     uint64_t style2, uint64_t year2, uint64_t month2, uint64_t day2);
+
+/*
+ * How many marks the transcript has, each of which is told in a place of its own; 0 where qv_marks_refusal refuses, and then no byte is
+ * changed.
+ * A transcript without marks has 0 too, so that qv_marks_refusal tells whether it is refused.
+ *
+ * The transcript is the length bytes from text on, which are UTF-8 and at most 65,536. Dating lines stand in it between [[ and ]], pairs
+ * that are taken from left to right without overlap, so that [[[x]] marks [x. A mark is what stands between a [[ and the nearest ]] after
+ * it with neither pair between; a later [[ starts afresh.
+ *
+ * A place is 20 bytes, and the size bytes from places on are size / 20 places, the whole part. The first mark fills the first place, the
+ * second the next, and so on, each with five numbers of four bytes, low byte first:
+ *
+ *     0  where the mark's text starts, in bytes
+ *     1  where it ends, in bytes
+ *     2  where it starts, in characters
+ *     3  where it ends, in characters
+ *     4  its day or refusal, as qv_line answers it for that text
+ *
+ * A character is a Unicode code point. Bytes and characters are counted from 0, and the end is just past the text. Later places and bytes
+ * left over stay as they are. A transcript has at most 16,384 marks, so that 327,680 bytes of places are always enough:
+ *
+ *     static uint32_t number_at(const uint8_t *place, size_t i)
+ *     {
+ *         const uint8_t *byte = place + 4 * i;
+ *         return byte[0] | (uint32_t)byte[1] << 8 | (uint32_t)byte[2] << 16 |
+ *                (uint32_t)byte[3] << 24;
+ *     }
+ *
+ *     static uint8_t places[16384 * 20];
+ *     size_t count = qv_marks(text, length, places, sizeof places);
+ *     uint32_t refusal = qv_marks_refusal(text, length, sizeof places);
+ *     if (refusal != 0)
+ *         refused(refusal);
+ *     for (size_t i = 0; i < count; i++) {
+ *         const uint8_t *place = places + i * 20;
+ *         marked(number_at(place, 2), number_at(place, 3),
+ *                number_at(place, 4));
+ *     }
+ *
+ * All bytes of the transcript must be readable, and all of the places readable and writable; a length or size of 0 goes with any pointer,
+ * NULL too. The two must not overlap, and while the call runs, nothing else may use the places.
+ *
+ *     qv_marks((const uint8_t *)"[[easter 1225 J]]", 17, (uint8_t[20]){0}, 20) == 1
+ *     qv_marks((const uint8_t *)"[[easter 1225 J]]", 17, NULL, 0) == 0
+ *     qv_marks((const uint8_t *)"no mark", 7, NULL, 0) == 0
+ */
+size_t qv_marks(const uint8_t *text, size_t length, uint8_t *places, size_t size);
+
+/*
+ * Why qv_marks refuses a transcript, which is passed as to it, where it is lent size bytes of places: QV_LENGTH for more than 65,536 bytes
+ * of text, QV_ENCODING, or QV_LENGTH for fewer places than marks, in this order; 0 where it does not refuse.
+ * Every size may be given.
+ *
+ *     qv_marks_refusal((const uint8_t *)"[[easter 1225 J]]", 17, 20) == 0
+ *     qv_marks_refusal((const uint8_t *)"[[easter 1225 J]]", 17, 19) == QV_LENGTH
+ *     qv_marks_refusal((const uint8_t *)"[[easter 1225 J]]\xff", 18, 19) == QV_ENCODING
+ */
+uint32_t qv_marks_refusal(const uint8_t *text, size_t length, size_t size);
 
 #ifdef __cplusplus
 }
