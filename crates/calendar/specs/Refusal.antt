@@ -8,7 +8,7 @@ use lib.Dec.{T, leb}
 use Rattle.calendar.specs.declared.refusal.Refusal.the-variants.{Name, Length, Form, Year, Date, Span, Encoding}
 use Rattle.calendar.specs.declared.refusal.Refusal.{Refusal}
 
--- "Refusal numbers, in the order of checking", each of one digit; 9 is checked where a transcript is
+-- "Refusal numbers, in the order of checking", each of one digit; a transcript is checked for 9 between its length and its places, both 2
 abbrev pub numbered : Refusal → (n : ℕ) × T (leb n 9)
 numbered Name = (1, tt)
 numbered Length = (2, tt)

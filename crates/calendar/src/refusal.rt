@@ -6,7 +6,7 @@ ghost use Rattle.calendar.specs.Refusal.{refusalNumber};
 pub enum Refusal {
     // A style or feast number is not in its list.
     Name,
-    // A line is empty or too long, a transcript too long, or a buffer too short.
+    // A line is empty or too long, a transcript too long, a buffer too short, or the places too few.
     Length,
     // The grammar does not produce the line.
     Form,

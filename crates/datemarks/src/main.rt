@@ -89,8 +89,8 @@ fn tell_marks(text: &[u8], output: &mut [u8])
         let NextMark::Next {
             start,
             end,
-            first,
-            past,
+            start_character,
+            end_character,
         } = next_mark(&text[at..])
         else {
             put(output, written);
@@ -104,13 +104,13 @@ fn tell_marks(text: &[u8], output: &mut [u8])
             line,
             at + start,
             at + end,
-            characters + first,
-            characters + past,
+            characters + start_character,
+            characters + end_character,
             output,
             place,
         );
         at += end + 2;
-        characters += past + 2;
+        characters += end_character + 2;
     }
 }
 

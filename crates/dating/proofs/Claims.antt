@@ -33,9 +33,10 @@ use Rattle.calendar.specs.Refusal.{refusalNumber, Holds, Lowest}
 use Rattle.calendar.specs.Span.{earliest, latest, inSpan, dayOrRefusal}
 use Rattle.calendar.specs.Style.{styleOf, styleNumber, byNumber}
 use Rattle.church.specs.Feast.{feastInYear}
+use Rattle.words.specs.Numeral.{field}
 use Rattle.words.specs.Told.{produced, unproduced}
 use Rattle.dating.specs.Anchor.{feast, date}
-use Rattle.dating.specs.Answer.{refusedText, IsAnswer, dated, refused, PutsText, PutsAnswer}
+use Rattle.dating.specs.Answer.{refusedText, IsAnswer, dated, refused, PutsText, PutsField, PutsAnswer}
 use Rattle.dating.specs.Line.{Line, spellLine, GoodLine, lineDay, lengthFits, unfit, fit, IsDayOfLine, LineHolds, IsNumberOfLine}
 use Rattle.dating.specs.Part.{anchorPart, linePart, Part, IsPart, PartOf}
 use Rattle.dating.specs.Phrase.{plain, anchorOf, comesTo, staysIn, yearServed, dateThere, startDay, phraseTests, phraseDay}
@@ -230,6 +231,16 @@ one-putting s i before a b r q h g = go (leb (i + 25) (length before)) h g
     go true (t, (p, h)) (u, (k, g)) =
         let same = one-text s t u p k in
         (h .0 ∙ ap length same ∙ sym (g .0), h .1 ∙ ap (sets before i) same ∙ sym (g .1))
+
+-- Any two results of putting a number and a byte are one: the same length, and the same bytes in the buffer.
+pub one-field : (n c i : ℕ) (before after then : List ℕ) (r q : ℕ) → PutsField n c i before after r → PutsField n c i before then q
+    → (r ≡ q) × (after ≡ then)
+one-field n c i before after then r q h k = go (leb (i + 21) (length before)) h k
+  where
+    go : (b : Bool) → cond b (PutsText i before after r (field n c)) ((r ≡ 0) × (after ≡ before))
+        → cond b (PutsText i before then q (field n c)) ((q ≡ 0) × (then ≡ before)) → (r ≡ q) × (after ≡ then)
+    go true h k = (h .0 ∙ sym (k .0), h .1 ∙ sym (k .1))
+    go false h k = (h .0 ∙ sym (k .0), h .1 ∙ sym (k .1))
 
 -- Putting a line's answer is answered by 0 exactly where fewer than 25 bytes stand at the place.
 pub zero-no-room : (s : List ℕ) (i : ℕ) (before after : List ℕ) (r : ℕ) → PutsAnswer s i before after r

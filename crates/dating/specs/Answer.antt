@@ -42,7 +42,7 @@ pub data IsAnswer (s t : List ℕ) : Type 0 where
   dated : (y : Style) (n : ℕ) → IsDayOfLine s (Day n) → IsOfStyle s y → DatedText y n t → IsAnswer s t
   refused : (x : Refusal) → IsDayOfLine s (NoDay x) → t ≡ refusedText x → IsAnswer s t
 
--- the answer t is put at the place i of a buffer, and r is its length
+-- the text t is put at the place i of a buffer, and r is its length
 abbrev pub PutsText : ℕ → (before after : List ℕ) → ℕ → List ℕ → Type 0
 PutsText i before after r t = (r ≡ length t) × (after ≡ sets before i t)
 

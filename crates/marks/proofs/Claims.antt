@@ -14,7 +14,7 @@ use Rattle.marks.proofs.mark.Laws.{two-bytes, pair-two}
 use Rattle.marks.proofs.mark.Marks.{has-marks, ends-in, end-inside, behind-other, one-end}
 use Rattle.marks.proofs.mark.Marks as mark-laws
 use Rattle.marks.proofs.transcript.Laws.{start-splits, end-splits, place-length}
-use Rattle.marks.proofs.utf8.Laws.{Split, between-splits}
+use Rattle.marks.proofs.utf8.Laws.{Split, characters-at, between-splits}
 pub use Rattle.marks.proofs.utf8.Laws.{one-list, Ascii, ascii-counts, longer-differs}
 use Rattle.calendar.specs.Refusal.{refusalNumber}
 use Rattle.marks.specs.Mark.{opening, closing, IsMark, AreMarks, IsFirstMark}
@@ -183,3 +183,9 @@ refusal-told s b a r q h k =
 pub no-bytes : (ms : List Mark) → AreMarks [] ms → ms ≡ []
 no-bytes [] are = refl
 no-bytes (m ∷ ms) are = absurd (omega (arith, end-inside (are .each m .0 (inl refl))))
+
+-- In UTF-8 the characters that the first mark is told with are those before its start and before its end.
+pub next-characters : (cs s : List ℕ) (a e f p : ℕ) → Spells cs s → IsNextMark s (Next a e f p)
+    → (f ≡ charactersBefore a cs) × (p ≡ charactersBefore e cs)
+next-characters cs s a e f p spells (h, (first, last)) =
+    (first ∙ sym (characters-at spells (start-splits spells (h .0))), last ∙ sym (characters-at spells (end-splits spells (h .0))))

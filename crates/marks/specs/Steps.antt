@@ -39,7 +39,7 @@ abbrev pub CountsMarks : List ℕ → ℕ → Type 0
 CountsMarks s n = (ms : List Mark) × (AreMarks s ms × (n ≡ length ms))
 
 -- ---- places
--- the five numbers of a mark are put at the place i
+-- the five numbers of a mark are put from the byte i on
 abbrev pub withPlace : List ℕ → ℕ → (start end first past number : ℕ) → List ℕ
 withPlace s i a e f p n = sets s i (placeBytes a e f p n)
 

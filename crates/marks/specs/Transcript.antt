@@ -61,7 +61,7 @@ module _ (refused : Refusal → Type 0) (answered : Type 0) where
   Checked [] = answered
   Checked (x unless holds ∷ cs) = ((holds → ⊥) × refused x) ⊎ (holds × Checked cs)
 
--- there are as many places of 20 bytes as marks
+-- there are at least as many places of 20 bytes as marks
 abbrev pub HasPlaces : List ℕ → ℕ → Type 0
 HasPlaces s size = (ms : List Mark) × (AreMarks s ms × (length ms ≤ size / 20))
 
@@ -69,16 +69,16 @@ HasPlaces s size = (ms : List Mark) × (AreMarks s ms × (length ms ≤ size / 2
 abbrev pub readable : List ℕ → List Condition
 readable s = Length unless (length s ≤ 65536) ∷ Encoding unless IsUtf8 s ∷ []
 
--- and behind these "2 for .. too few places"
+-- and behind these "2 for .. too few places", which is looked at last though 2 is below 9
 abbrev pub conditions : List ℕ → ℕ → List Condition
 conditions s size = readable s ++ Length unless HasPlaces s size ∷ []
 
--- the call is lent places of so many bytes, answers r, and leaves them with the bytes after
+-- the call is lent places that hold the bytes before, answers r, and leaves them with the bytes after
 abbrev pub FindsMarks : {R : Type 0} → (ℕ → R) → (Refusal → R) → (s before after : List ℕ) → R → Type 0
 FindsMarks told refused s before after r =
     Checked (λ x. (r ≡ refused x) × (after ≡ before)) ((n : ℕ) × (Found s before after n × (r ≡ told n))) (conditions s (length before))
 
--- r is the refusal's number, or 0 where the marks are not refused
+-- r is the number of the refusal where places of so many bytes are lent, or 0 where the marks are not refused
 abbrev pub TellsRefusal : List ℕ → ℕ → ℕ → Type 0
 TellsRefusal s size r = Checked (λ x. r ≡ refusalNumber x) (r ≡ 0) (conditions s size)
 

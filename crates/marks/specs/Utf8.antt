@@ -32,12 +32,12 @@ abbrev pub CodePoints : List ℕ → Type 0
 CodePoints [] = Unit
 CodePoints (c ∷ cs) = CodePoint c × CodePoints cs
 
--- the bytes s are spelled by the code points cs
+-- the code points cs are spelled with the bytes s
 pub record Spells (cs s : List ℕ) : Type 0 where
   pub points : CodePoints cs
   pub bytes : spelled cs ≡ s
 
--- some code points are spelled so
+-- "UTF-8": some list of code points is spelled with the bytes s
 abbrev pub IsUtf8 : List ℕ → Type 0
 IsUtf8 s = (cs : List ℕ) × Spells cs s
 
@@ -50,7 +50,7 @@ unfoldable pub charactersBefore : ℕ → List ℕ → ℕ
 charactersBefore i [] = 0
 charactersBefore i (c ∷ cs) = cond (leb (length (encoded c)) i) (suc (charactersBefore (i - length (encoded c)) cs)) 0
 
--- how many bytes begin a character: all but those that begin with the bits 0b10
+-- how many bytes do not begin with the bits 0b10; in UTF-8 these are the first bytes of the characters
 unfoldable pub starts : List ℕ → ℕ
 starts [] = 0
 starts (b ∷ s) = cond (eqb (b / 0x40) 0b10) (starts s) (suc (starts s))

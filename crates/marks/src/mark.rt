@@ -39,7 +39,7 @@ fn two_at(text: &[u8], at: usize) -> u8
 }
 
 // The first mark of a text.
-pub fn first_mark(text: &[u8]) -> FirstMark
+pub(crate) fn first_mark(text: &[u8]) -> FirstMark
     ensures { λ r. ⌜ IsFirstMark (now (text .entry)) r ⌝ }
 {
     let mut start = 0;

@@ -14,7 +14,7 @@ ghost use Rattle.marks.specs.Steps.{CountsMarks, withPlace, Fillable, Fi
 ghost use Rattle.marks.specs.Transcript.{IsNextMark, FindsMarks, TellsRefusal, marksOrZero};
 ghost use Rattle.marks.specs.declared.transcript.MarksAnswer.the-variants.{Marks, NoMarks};
 
-// The number of marks, or why there is none.
+// The number of marks, or why they are refused.
 pub enum MarksAnswer {
     Marks(usize),
     NoMarks(Refusal),
@@ -25,8 +25,8 @@ pub enum NextMark {
     Next {
         start: usize,
         end: usize,
-        first: usize,
-        past: usize,
+        start_character: usize,
+        end_character: usize,
     },
     NoMore,
 }
@@ -40,13 +40,13 @@ pub fn next_mark(text: &[u8]) -> NextMark
     };
     let start = mark.start;
     let end = mark.end;
-    let first = count_starts(&text[..start]);
-    let past = first + count_starts(&text[start..end]);
+    let start_character = count_starts(&text[..start]);
+    let end_character = start_character + count_starts(&text[start..end]);
     NextMark::Next {
         start,
         end,
-        first,
-        past,
+        start_character,
+        end_character,
     }
 }
 
@@ -66,14 +66,22 @@ fn count_marks(text: &[u8]) -> usize
 }
 
 // Puts the five numbers of a mark at a place.
-fn put_place(places: &mut [u8], at: usize, start: u32, end: u32, first: u32, past: u32, number: u32)
+fn put_place(
+    places: &mut [u8],
+    at: usize,
+    start: u32,
+    end: u32,
+    start_character: u32,
+    end_character: u32,
+    number: u32,
+)
     requires { ⌜ at + 20 ≤ length (now places) ⌝ }
-    ensures { λ _. ⌜ now (places .exit) ≡ withPlace (now (places .entry)) at start end first past number ⌝ }
+    ensures { λ _. ⌜ now (places .exit) ≡ withPlace (now (places .entry)) at start end «start_character» «end_character» number ⌝ }
 {
     put_number(places, at, start);
     put_number(places, at + 4, end);
-    put_number(places, at + 8, first);
-    put_number(places, at + 12, past);
+    put_number(places, at + 8, start_character);
+    put_number(places, at + 12, end_character);
     put_number(places, at + 16, number);
 }
 
@@ -89,8 +97,8 @@ fn fill_places(text: &[u8], places: &mut [u8])
         let NextMark::Next {
             start,
             end,
-            first,
-            past,
+            start_character,
+            end_character,
         } = next_mark(&text[at..])
         else {
             return;
@@ -101,13 +109,13 @@ fn fill_places(text: &[u8], places: &mut [u8])
             place,
             (at + start) as u32,
             (at + end) as u32,
-            (characters + first) as u32,
-            (characters + past) as u32,
+            (characters + start_character) as u32,
+            (characters + end_character) as u32,
             number,
         );
         place += 20;
         at += end + 2;
-        characters += past + 2;
+        characters += end_character + 2;
     }
 }
 

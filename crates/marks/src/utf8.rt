@@ -107,7 +107,7 @@ pub fn is_utf8(text: &[u8]) -> bool
     true
 }
 
-// How many bytes begin a character, which in UTF-8 are as many as its characters.
+// How many bytes do not begin with the bits 0b10, which in UTF-8 are as many as the characters.
 pub(crate) fn count_starts(text: &[u8]) -> usize
     ensures { λ r. ⌜ r ≡ starts (now (text .entry)) ⌝ }
 {

@@ -6,7 +6,7 @@ use lib.Dec.{leb}
 use lib.ListN.{length}
 use lib.Seq.{sets}
 
--- "each four bytes, low byte first"
+-- the bytes of a number, low byte first
 unfoldable pub numberBytes : ℕ → List ℕ
 numberBytes n = n % 256 ∷ n / 256 % 256 ∷ n / 256 / 256 % 256 ∷ n / 256 / 256 / 256 % 256 ∷ []
 
@@ -15,6 +15,6 @@ abbrev pub numberOf : List ℕ → ℕ
 numberOf [] = 0
 numberOf (b ∷ s) = b + 256 * numberOf s
 
--- the number n is put at the place i of the bytes s; where fewer than four stand there, they stay
+-- the number n is put from the byte i of s on; where fewer than four bytes stand there, they stay
 unfoldable pub withNumber : List ℕ → ℕ → ℕ → List ℕ
 withNumber s i n = cond (leb (i + 4) (length s)) (sets s i (numberBytes n)) s

@@ -2,7 +2,7 @@
 ghost use mathlib.Core.Path.{_≡_};
 ghost use Rattle.places.specs.Number.{withNumber};
 
-// Puts a number at a place of a buffer; where fewer than four bytes stand there, nothing is put.
+// Puts a number into a buffer, from the byte at on; where fewer than four bytes stand there, nothing is put.
 pub fn put_number(buffer: &mut [u8], at: usize, number: u32)
     ensures { λ _. ⌜ now (buffer .exit) ≡ withNumber (now (buffer .entry)) at number ⌝ }
 {

@@ -1,7 +1,7 @@
 use mathlib.Core.Bool.{true}
 use mathlib.Core.Path.{_≡_, sym, _∙_}
 use Prim.Native.Char.{code}
-use Prim.Native.Nat.{_-_}
+use Prim.Native.Nat.{suc, _-_, _<_}
 use native.Mathlib.Omega.{arith}
 use lib.ListN.{length}
 use Rattle.marks.proofs.mark.Laws.{told-opening, told-closing, told-other, two-inside, Scan, scan-first, at-opening, at-closing, at-other}
@@ -30,13 +30,15 @@ closes : (c : tie.Then2 Inv-loop μ-loop)
     → let l = c .before .before .before .before in two (code "]") (l .before .before .args .text .now) (l .loop .i) ≡ true
 closes c = told-closing _ _ (sym (c .before .before .two-at .ensures) ∙ c .if2 .taken)
 
+-- the pair has its second byte
+inside : (c : tie.Then1 Inv-loop μ-loop) → let l = c .before .before .before in suc (l .loop .i) < length (l .before .before .args .text .now)
+inside c = let l = c .before .before .before in two-inside (code "[") (l .before .before .args .text .now) (l .loop .i) (omega arith) (opens c)
+
 add-start : tie.Need-add-start Inv-loop μ-loop
-add-start c =
-    let l = c .before .before .before in
-    omega (arith, two-inside (code "[") (l .before .before .args .text .now) (l .loop .i) (omega arith) (opens c))
+add-start c = omega (arith, inside c)
 
 add-i : tie.Need-add-i Inv-loop μ-loop
-add-i c = add-start c
+add-i c = omega (arith, inside c)
 
 loop-less : tie.Need-loop-less Inv-loop μ-loop
 loop-less c = omega (arith, c .before .before .loop-test .taken)

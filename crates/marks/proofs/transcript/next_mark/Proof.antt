@@ -44,8 +44,8 @@ counted c =
     let s = k .before .before .before .before .before .args .text .now in
     counted-to s (m .start) (m .end) _ _ (found k .0 .forward) (c .before .before .count-starts .ensures) (c .count-starts2 .ensures)
 
-add-past : tie.Need-add-past
-add-past c =
+add-end-character : tie.Need-add-end-character
+add-end-character c =
     let k = c .before .before .before .before in
     let m = k .before .mark .given .0 .0 in
     let s = k .before .before .before .before .before .args .text .now in
@@ -66,5 +66,5 @@ next-mark-spec =
     part-count-starts-start
     part-count-starts-end
     (λ c κs. search needs)
-    add-past
+    add-end-character
     returns-2)
