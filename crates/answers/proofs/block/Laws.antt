@@ -16,7 +16,7 @@ use Rattle.words.proofs.text.Laws.{either, neither, rest}
 use Rattle.dating.proofs.answer.Laws.{answer-length, overlong}
 use Rattle.places.proofs.Bytes.{sets-both, sets-start}
 use Rattle.answers.proofs.Lines.{linesFrom, ended-append, open-append, open-whole, open-lacks}
-use Rattle.answers.proofs.Lines.{answers-append, one-answered, answers-split, one-output}
+use Rattle.answers.proofs.Lines.{answers-append, one-answered, answers-split}
 use Rattle.words.specs.Text.{has, over}
 use Rattle.dating.specs.Answer.{lineFeed, IsAnswer, PutsAnswer}
 use Rattle.answers.specs.Block.{kept, Written, AnswersBlock, AnswersLast, joined, Run}

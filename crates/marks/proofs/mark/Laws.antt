@@ -1,16 +1,15 @@
 -- Pairs from left to right, and the first mark of a text.
 use mathlib.Core.Bool.{Bool, true, false, _&&_, not, true≢false, and-true, and-false}
-use mathlib.Core.List.{List, [], _∷_, _++_}
-use mathlib.Core.Logic.{_↔_, _⊎_, inl, inr, ⊎-elim}
-use mathlib.Core.Path.{_≡_, refl, sym, _∙_, ap, subst}
+use mathlib.Core.List.{List, []}
+use mathlib.Core.Logic.{_⊎_, inl, inr, ⊎-elim}
+use mathlib.Core.Path.{_≡_, refl, sym, _∙_}
 use Prim.Native.Char.{code}
 use Prim.Native.Nat.{ℕ, zero, suc, _+_, _-_, _<_, _≤_}
 use native.Mathlib.Decide.{decLt}
 use native.Mathlib.Omega.{arith}
 use lib.Dec.{eqb}
-use lib.ListN.{length, drop, getD, List·getD-eq-default}
-use lib.Seq.{getD-drop}
-use borrow.Author.Tests.{eqb-true, eq-eqb, ne-eqb}
+use lib.ListN.{length, getD, List·getD-eq-default}
+use borrow.Author.Tests.{eqb-true, eq-eqb}
 use Rattle.marks.specs.Mark.{two, pair, opening, closing, IsMark, IsFirstMark}
 use Rattle.marks.specs.Steps.{twoAt}
 use Rattle.marks.specs.declared.mark.FirstMark.the-variants.{At, NoMark}

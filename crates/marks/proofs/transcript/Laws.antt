@@ -27,7 +27,7 @@ use Rattle.marks.specs.declared.mark.FirstMark.the-variants.{At, NoMark}
 use Rattle.marks.specs.declared.mark.Mark.{Mark}
 use Rattle.marks.specs.declared.transcript.MarksAnswer.the-variants.{Marks, NoMarks}
 use Rattle.marks.specs.declared.transcript.MarksAnswer.{MarksAnswer}
-use Rattle.marks.specs.declared.transcript.NextMark.the-variants.{Next, NoMore}
+use Rattle.marks.specs.declared.transcript.NextMark.the-variants.{Next}
 
 -- ---- a place
 -- a number behind bytes makes them four longer
