@@ -215,7 +215,7 @@ int32_t qv_distance(uint64_t style1, uint64_t year1, uint64_t month1, uint64_t d
  * All bytes of the transcript must be readable, and all of the places readable and writable; a length or size of 0 goes with any pointer,
  * NULL too. The two must not overlap, and while the call runs, nothing else may use the places.
  *
- *     qv_marks((const uint8_t *)"[[easter 1225 J]]", 17, (uint8_t[20]){0}, 20) == 1
+ *     qv_marks((const uint8_t *)"[[easter 1225 J]]", 17, places, sizeof places) == 1
  *     qv_marks((const uint8_t *)"[[easter 1225 J]]", 17, NULL, 0) == 0
  *     qv_marks((const uint8_t *)"no mark", 7, NULL, 0) == 0
  */

@@ -1,6 +1,6 @@
 -- Pairs from left to right, and the first mark of a text.
 use mathlib.Core.Bool.{Bool, true, false, _&&_, not, true≢false, and-true, and-false}
-use mathlib.Core.List.{List, []}
+use mathlib.Core.List.{List}
 use mathlib.Core.Logic.{_⊎_, inl, inr, ⊎-elim}
 use mathlib.Core.Path.{_≡_, refl, sym, _∙_}
 use Prim.Native.Char.{code}
