@@ -146,7 +146,7 @@ later-stay s b a n h = rw (text-length h, h .bytes) (drop-append-seam (h .text) 
 
 -- ---- what is refused
 -- two results behind the same conditions are both refused by one refusal, or both answered
-both-checked : (R S : Refusal → Type 0) {A B : Type 0} (cs : List Condition) → Checked R A cs → Checked S B cs → ((x : Refusal) × (R x × S x)) ⊎ (A × B)
+pub both-checked : (R S : Refusal → Type 0) {A B : Type 0} (cs : List Condition) → Checked R A cs → Checked S B cs → ((x : Refusal) × (R x × S x)) ⊎ (A × B)
 both-checked R S [] h k = inr (h, k)
 both-checked R S (x unless holds ∷ cs) (inl h) (inl k) = inl (x, (h .1, k .1))
 both-checked R S (x unless holds ∷ cs) (inl h) (inr k) = absurd (h .0 (k .0))

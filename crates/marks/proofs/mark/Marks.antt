@@ -1,6 +1,6 @@
 -- All marks of a text: in order, apart from each other, and mark by mark.
 use mathlib.Core.Bool.{true, not}
-use mathlib.Core.List.{List, [], _∷_, _++_}
+use mathlib.Core.List.{List, [], _∷_, _++_, append-nil}
 use mathlib.Core.Logic.{_↔_, _⊎_, inl, inr, ⊎-elim}
 use mathlib.Core.Path.{_≡_, refl, sym, _∙_, ap, ap₂}
 use Prim.Native.Char.{code}
@@ -8,7 +8,7 @@ use Prim.Native.Nat.{ℕ, zero, suc, _+_, _-_, _*_, _<_, _≤_}
 use native.Mathlib.Decide.{decLt}
 use native.Mathlib.Omega.{arith}
 use lib.ListN.{length, take, drop, getD, length-append, length-drop}
-use lib.Seq.{take-all, getD-drop}
+use lib.Seq.{take-all, append-snoc, getD-drop}
 use Rattle.marks.proofs.mark.Laws.{either, clash, brackets-differ, two-bytes, two-not, two-inside, pair-two, apart, Clear, clear-first, clear-closed}
 use Rattle.marks.proofs.mark.Laws.{not-end, past-one, in-order, Scan, scan-first, at-opening, at-closing, at-other, found, not-found}
 use Rattle.marks.specs.Mark.{two, pair, opening, closing, IsMark, In, RiseFrom, AreMarks, IsFirstMark}
@@ -309,16 +309,20 @@ first-from (suc n) s start i few p =
           ]
     ]
 
-abbrev HasMarks : List ℕ → Type 0
-HasMarks s = (all : List Mark) × (AreMarks s all × (length all * 4 ≤ length s))
+-- the marks of s are ms and more behind them, and each takes four brackets
+abbrev HasMarks : List ℕ → List Mark → Type 0
+HasMarks s ms = (more : List Mark) × (AreMarks s (ms ++ more) × (length (ms ++ more) * 4 ≤ length s))
 
 -- the marks that end before the place i and those of the rest, where the next mark leads to all
-with-rest : {s : List ℕ} {i : ℕ} {ms : List Mark} → Upto s i ms → ((m : Mark) → IsFirstMark (drop i s) (At m) → HasMarks s)
-    → (r : FirstMark) × IsFirstMark (drop i s) r → HasMarks s
-with-rest p next (At m, first) = next m first
-with-rest {ms = ms} p next (NoMark, none) = (ms, (upto-last p none, omega (arith, p .few, p .inside)))
+with-rest : {s : List ℕ} {i : ℕ} {ms : List Mark} → Upto s i ms
+    → ((m : Mark) → IsFirstMark (drop i s) (At m) → HasMarks s (ms ++ shifted i m ∷ []))
+    → (r : FirstMark) × IsFirstMark (drop i s) r → HasMarks s ms
+with-rest {i = i} {ms} p next (At m, first) =
+    let all = next m first in
+    (shifted i m ∷ all .0, rw (append-snoc ms (shifted i m) (all .0)) at (all .1))
+with-rest {ms = ms} p next (NoMark, none) = ([], rw (append-nil ms) (upto-last p none, omega (arith, p .few, p .inside)))
 
-all-from : (n : ℕ) (s : List ℕ) (i : ℕ) (ms : List Mark) → length s ≤ n + i → Upto s i ms → HasMarks s
+all-from : (n : ℕ) (s : List ℕ) (i : ℕ) (ms : List Mark) → length s ≤ n + i → Upto s i ms → HasMarks s ms
 all-from zero s i ms few p =
     with-rest p (λ m first. absurd (omega (arith, upto-next p m first .inside)))
     (first-from (length (drop i s)) (drop i s) 0 0 (omega arith) (scan-first (drop i s)))
@@ -328,3 +332,7 @@ all-from (suc n) s i ms few p =
 
 pub has-marks : (s : List ℕ) → (ms : List Mark) × (AreMarks s ms × (length ms * 4 ≤ length s))
 has-marks s = all-from (length s) s 0 [] (omega arith) (upto-first s)
+
+-- the marks that end before a place are the first of all
+pub upto-all : {s : List ℕ} {i : ℕ} {ms : List Mark} → Upto s i ms → (more : List Mark) × AreMarks s (ms ++ more)
+upto-all {s} {i} {ms} p = let all = all-from (length s) s i ms (omega arith) p in (all .0, all .1 .0)
