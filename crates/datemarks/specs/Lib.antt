@@ -1,2 +1,2 @@
--- What is told of one mark.
-pub mod Telling
+-- How much of the input is taken.
+pub mod Reading

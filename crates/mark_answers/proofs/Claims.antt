@@ -62,18 +62,20 @@ one-result s skip before after other r q h k =
 text-written : {after : List ℕ} {n : ℕ} (t before : List ℕ) → n ≡ length t → after ≡ over t before → take n after ≡ t
 text-written {n = n} t before count bytes = rw bytes (take-at t (drop (length t) before) n (sym count))
 
--- No more is written than the buffer has.
-pub written-inside : (s : List ℕ) (skip : ℕ) (before after : List ℕ) (r : Told) → length after ≡ length before → AnswersMarks s skip before after r
-    → r .written ≤ length before
-written-inside s skip before after r same h =
-    ⊎-elim (λ x. inside (refusedText (x .0)) (x .1 .0 .count) (x .1 .0 .bytes)) (λ both. inside (both .0 .text) (both .0 .count) (both .0 .bytes))
+-- The buffer stays as long as it was, and no more is written than it has.
+pub written-inside : (s : List ℕ) (skip : ℕ) (before after : List ℕ) (r : Told) → AnswersMarks s skip before after r
+    → (length after ≡ length before) × (r .written ≤ length before)
+written-inside s skip before after r h =
+    ⊎-elim (λ x. let k = x .1 .0 in inside (refusedText (x .0)) (k .room) (k .count) (k .bytes))
+    (λ both. let k = both .0 in inside (k .text) (k .room) (k .count) (k .bytes))
     (both-checked (λ x. TellsNone x before after r) (λ x. TellsNone x before after r) (readable s) h h)
   where
-    inside : (t : List ℕ) → r .written ≡ length t → after ≡ over t before → r .written ≤ length before
-    inside t count bytes =
+    inside : (t : List ℕ) → length t ≤ length before → r .written ≡ length t → after ≡ over t before
+        → (length after ≡ length before) × (r .written ≤ length before)
+    inside t room count bytes =
         let all = ap length bytes ∙ length-append t (drop (length t) before) in
         let rest = length-drop (length t) before in
-        omega arith
+        (omega arith, omega arith)
 
 fitting-few : {s cs : List ℕ} {room : ℕ} {ms : List Mark} {t : List ℕ} {k : ℕ} → TellsFitting s cs room ms t k → k ≤ length ms
 fitting-few all-told = omega arith

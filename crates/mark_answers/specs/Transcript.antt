@@ -45,12 +45,14 @@ pub record TellsFrom (s : List ℕ) (skip : ℕ) (before after : List ℕ) (r : 
   pub are-marks : AreMarks s marks
   pub text : List ℕ
   pub fits : TellsFitting s characters (length before) (drop skip marks) text (r .marks)
+  pub room : length text ≤ length before
   pub count : r .written ≡ length text
   pub bytes : after ≡ over text before
 
 -- r tells no mark, and the refusal's number is written at the start of a buffer
 pub record TellsNone (x : Refusal) (before after : List ℕ) (r : Told) : Type 0 where
   pub none : r .marks ≡ 0
+  pub room : length (refusedText x) ≤ length before
   pub count : r .written ≡ length (refusedText x)
   pub bytes : after ≡ over (refusedText x) before
 

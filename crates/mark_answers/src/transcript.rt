@@ -32,9 +32,11 @@ fn put_mark(
     ensures { λ r. ⌜ PutsMark (now (line .entry)) start end «start_character» «end_character» at (now (output .entry)) (now (output .exit)) r ⌝ }
 {
     let end_at = at + put_field(output, at, start as u64, b' ');
-    let first_at = end_at + put_field(output, end_at, end as u64, b' ');
-    let past_at = first_at + put_field(output, first_at, start_character as u64, b' ');
-    let answer_at = past_at + put_field(output, past_at, end_character as u64, b' ');
+    let start_character_at = end_at + put_field(output, end_at, end as u64, b' ');
+    let end_character_at = start_character_at
+        + put_field(output, start_character_at, start_character as u64, b' ');
+    let answer_at = end_character_at
+        + put_field(output, end_character_at, end_character as u64, b' ');
     answer_at + put_answer(line, output, answer_at)
 }
 

@@ -20,4 +20,4 @@ main-spec =
     (λ c. search needs)
     array-share-prefix-input
     slice-aggregate-tell
-    (λ c. search needs) (λ c κs. search needs) (λ c. search needs))
+    (λ c κs. search needs) (λ c. search needs))

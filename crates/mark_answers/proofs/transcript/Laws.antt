@@ -105,6 +105,7 @@ module _ {s : List ℕ} {passed i characters : ℕ} (p : Passing s passed i char
     are-marks = upto-last (p .reached .upto) none;
     text = [];
     fits = rw (drop-over skip (p .marks) (omega (arith, p .count))) all-told;
+    room = omega arith;
     count = refl;
     bytes = refl;
   }
@@ -185,6 +186,7 @@ module _ {s : List ℕ} {skip : ℕ} {before : List ℕ} {written told i charact
   tell-stop more are stop =
       let behind = ap (drop skip) (append-assoc (p .passed) (p .marks) more) ∙ drop-at (p .passed) (p .marks ++ more) skip (p .skipped) in
       let e : told + 0 ≡ told = omega arith in
+      let room : length (p .text) ≤ length before = omega (arith, p .size, p .inside) in
       record {
         characters = p .points;
         spells = p .spells;
@@ -192,8 +194,9 @@ module _ {s : List ℕ} {skip : ℕ} {before : List ℕ} {written told i charact
         are-marks = are;
         text = p .text;
         fits = rw behind (rw (append-nil (p .text), e) at (p .fits more [] 0 stop));
+        room = room;
         count = p .size;
-        bytes = p .bytes ∙ sets-start (p .text) before (omega (arith, p .size, p .inside));
+        bytes = p .bytes ∙ sets-start (p .text) before room;
       }
 
   pub tell-last : IsFirstMark (drop i s) NoMark → TellsFrom s skip before after result
@@ -257,7 +260,8 @@ module _ (s : List ℕ) (skip : ℕ) (before : List ℕ) where
       go : PutsText 0 before after r (refusedText x) → TellsNone x before after (record { written = r; marks = 0 })
       go (count, bytes) =
           let two = refused-length x in
-          record { none = refl; count = count; bytes = bytes ∙ sets-start (refusedText x) before (omega arith) }
+          let fits : length (refusedText x) ≤ length before = omega arith in
+          record { none = refl; room = fits; count = count; bytes = bytes ∙ sets-start (refusedText x) before fits }
 
   module _ (after : List ℕ) where
     pub told-long : (r : ℕ) → 21 ≤ length before → 65536 < length s → PutsField 2 lineFeed 0 before after r

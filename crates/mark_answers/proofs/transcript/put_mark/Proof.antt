@@ -29,7 +29,8 @@ two c =
 three : (c : tie.After-slice-known4)
     → let d = c .before .before .before .before in let b = d .before .before .before .before in
     let a = b .before .before .before .before .before .before .args in
-    Fields (a .output .now) (a .at) 3 (field (a .start) space ++ field (a .end) space ++ field (a .start-character) space) (c .before .before .put-field3 .last .0)
+    Fields (a .output .now) (a .at) 3 (field (a .start) space ++ field (a .end) space ++ field (a .start-character) space)
+    (c .before .before .put-field3 .last .0)
     (a .at + b .before .before .put-field .result + d .before .before .put-field2 .result + c .before .before .put-field3 .result)
 three c =
     let d = c .before .before .before .before in
@@ -50,11 +51,11 @@ four c =
 add-end-at : tie.Need-add-end-at
 add-end-at c = omega (arith, one c, c .before .before .before .before .before .before .pre .1)
 
-add-first-at : tie.Need-add-first-at
-add-first-at c = omega (arith, two c, c .before .before .before .before .before .before .before .before .before .before .pre .1)
+add-start-character-at : tie.Need-add-start-character-at
+add-start-character-at c = omega (arith, two c, c .before .before .before .before .before .before .before .before .before .before .pre .1)
 
-add-past-at : tie.Need-add-past-at
-add-past-at c =
+add-end-character-at : tie.Need-add-end-character-at
+add-end-character-at c =
     let b = c .before .before .before .before .before .before .before .before in
     omega (arith, three c, b .before .before .before .before .before .before .pre .1)
 
@@ -81,9 +82,9 @@ put-mark-spec =
     (λ c κs. search needs)
     add-end-at
     (λ c κs. search needs)
-    add-first-at
+    add-start-character-at
     (λ c κs. search needs)
-    add-past-at
+    add-end-character-at
     (λ c κs. search needs)
     add-answer-at
     (λ c κs. search needs)

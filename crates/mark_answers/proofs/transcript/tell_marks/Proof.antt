@@ -73,7 +73,9 @@ loop-less : tie.Need-loop-less Inv-loop μ-loop Inv-loop2 μ-loop2
 loop-less c = omega (arith, c .before .before .before .before .before .loop-test .taken)
 
 loop-again : tie.Need-loop-again Inv-loop μ-loop Inv-loop2 μ-loop2
-loop-again c = (pass-next (c .before .before .before .before .before .before .loop .inv .0) _ _ _ _ (passed c), omega (arith, c .before .before .before .before .before .loop-test .taken))
+loop-again c =
+    let k = c .before .before .before .before .before in
+    (pass-next (k .before .loop .inv .0) _ _ _ _ (passed c), omega (arith, k .loop-test .taken))
 
 loop2-holds : tie.Need-loop2-holds Inv-loop μ-loop Inv-loop2 μ-loop2
 loop2-holds c =
@@ -105,7 +107,8 @@ found : (c : tie.After-known-told2 Inv-loop μ-loop Inv-loop2 μ-loop2)
     IsNextMark (drop (l .loop2 .at) (l .before .before .before .before .before .args .text .now)) (Next (m .0) (m .1 .0) (m .1 .1 .0) (m .1 .1 .1 .0))
 found c =
     let l = c .before .before .before .before .before .before in
-    rw (c .before .start .given .1, rest (l .loop2 .at) (l .before .before .before .before .before .args .text .now)) at (c .before .before .before .next-mark2 .ensures)
+    let s = l .before .before .before .before .before .args .text .now in
+    rw (c .before .start .given .1, rest (l .loop2 .at) s) at (c .before .before .before .next-mark2 .ensures)
 
 small : (c : tie.After-known-told2 Inv-loop μ-loop Inv-loop2 μ-loop2)
     → let l = c .before .before .before .before .before .before in let m = c .before .start .given .0 in
@@ -113,8 +116,9 @@ small : (c : tie.After-known-told2 Inv-loop μ-loop Inv-loop2 μ-loop2)
 small c = tell-small (c .before .before .before .before .before .before .loop2 .inv) _ _ _ _ (found c)
 
 room : (c : tie.After-known-told2 Inv-loop μ-loop Inv-loop2 μ-loop2)
-    → let l = c .before .before .before .before .before .before in 49 ≤ length (l .before .before .before .before .before .args .output .now) - l .loop2 .written
-room c = omega (arith, c .before .before .before .before .before .loop2-test .taken, tell-length (c .before .before .before .before .before .before .loop2 .inv))
+    → let l = c .before .before .before .before .before .before in
+    49 ≤ length (l .before .before .before .before .before .args .output .now) - l .loop2 .written
+room c = let k = c .before .before .before .before .before in omega (arith, k .loop2-test .taken, tell-length (k .before .loop2 .inv))
 
 add-put-mark : tie.Need-add-put-mark Inv-loop μ-loop Inv-loop2 μ-loop2
 add-put-mark c = omega (arith, small c)

@@ -1,2 +1,0 @@
--- Steps to what is told of a mark.
-mod Fields
