@@ -2,7 +2,7 @@
 use mathlib.Core.List.{List, [], _∷_, _++_, append-assoc}
 use mathlib.Core.Logic.{inl, inr, ⊎-elim}
 use mathlib.Core.Path.{_≡_, refl, sym, _∙_, ap, ap₂}
-use Prim.Native.Nat.{ℕ, zero, suc, _+_, _-_, _*_, _<_, _≤_}
+use Prim.Native.Nat.{ℕ, suc, _+_, _-_, _<_, _≤_}
 use native.Mathlib.Omega.{arith}
 use lib.ListN.{length, take, drop, length-append, length-drop}
 use lib.Seq.{take-at, drop-drop}
@@ -162,19 +162,20 @@ run-rest : {s : List ℕ} {size skip : ℕ} {t : List ℕ} → 49 ≤ size → R
 run-rest room (ends long h none) = last-call (omega arith) none h
 run-rest room (goes-on {u = u} long h some more) = joined u some h (run-rest room more)
 
--- What the calls write for a transcript, from the first mark on until one tells none, is its output: all its marks, in order and once each, or the refusal.
+-- What the calls write for a transcript, from its first mark on up to a call that tells none, is its output: all its marks, in order and once each,
+-- or the refusal.
 pub whole-run : (s : List ℕ) (size : ℕ) (t : List ℕ) → 49 ≤ size → Run s size 0 t → IsTranscriptOutput s t
 whole-run s size t room run =
     checked-on (λ x. t ≡ refusedText x) (λ x. t ≡ refusedText x) (readable s) (λ x e. e)
     (λ k. record { characters = k .characters; spells = k .spells; marks = k .marks; are-marks = k .are-marks; texts = k .texts })
     (run-rest room run)
 
--- A transcript has no two outputs.
 one-tellings : (s cs : List ℕ) (ms : List Mark) (t u : List ℕ) → TellsMarks s cs ms t → TellsMarks s cs ms u → t ≡ u
 one-tellings s cs [] t u h k = h ∙ sym k
 one-tellings s cs (m ∷ ms) t u (a, (v, (first, (rest, e)))) (b, (w, (other, (more, f)))) =
     e ∙ ap₂ (λ (x y : List ℕ). x ++ y) (one-telling s cs m a b first other) (one-tellings s cs ms v w rest more) ∙ sym f
 
+-- A transcript has no two outputs.
 pub one-output : (s t u : List ℕ) → IsTranscriptOutput s t → IsTranscriptOutput s u → t ≡ u
 one-output s t u h k =
     ⊎-elim (λ x. x .1 .0 ∙ sym (x .1 .1)) (λ both. all (both .0) (both .1))
