@@ -53,8 +53,8 @@ fn tell_marks(text: &[u8], skip: usize, output: &mut [u8]) -> Told
         let NextMark::Next {
             start: _,
             end,
-            first: _,
-            past,
+            start_character: _,
+            end_character,
         } = next_mark(&text[at..])
         else {
             return Told {
@@ -63,7 +63,7 @@ fn tell_marks(text: &[u8], skip: usize, output: &mut [u8]) -> Told
             };
         };
         at += end + 2;
-        characters += past + 2;
+        characters += end_character + 2;
         passed += 1;
     }
     let mut written = 0;
@@ -72,8 +72,8 @@ fn tell_marks(text: &[u8], skip: usize, output: &mut [u8]) -> Told
         let NextMark::Next {
             start,
             end,
-            first,
-            past,
+            start_character,
+            end_character,
         } = next_mark(&text[at..])
         else {
             return Told {
@@ -85,14 +85,14 @@ fn tell_marks(text: &[u8], skip: usize, output: &mut [u8]) -> Told
             &text[at + start..at + end],
             at + start,
             at + end,
-            characters + first,
-            characters + past,
+            characters + start_character,
+            characters + end_character,
             output,
             written,
         );
         told += 1;
         at += end + 2;
-        characters += past + 2;
+        characters += end_character + 2;
     }
     Told {
         written,

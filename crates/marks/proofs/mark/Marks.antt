@@ -7,8 +7,8 @@ use Prim.Native.Char.{code}
 use Prim.Native.Nat.{ℕ, zero, suc, _+_, _-_, _*_, _<_, _≤_}
 use native.Mathlib.Decide.{decLt}
 use native.Mathlib.Omega.{arith}
-use lib.ListN.{length, take, drop, getD, length-append, length-drop}
-use lib.Seq.{take-all, append-snoc, getD-drop}
+use lib.ListN.{length, drop, getD, length-append}
+use lib.Seq.{append-snoc, getD-drop}
 use Rattle.marks.proofs.mark.Laws.{either, clash, brackets-differ, two-bytes, two-not, two-inside, pair-two, apart, Clear, clear-first, clear-closed}
 use Rattle.marks.proofs.mark.Laws.{not-end, past-one, in-order, Scan, scan-first, at-opening, at-closing, at-other, found, not-found}
 use Rattle.marks.specs.Mark.{two, pair, opening, closing, IsMark, In, RiseFrom, AreMarks, IsFirstMark}
@@ -146,10 +146,6 @@ rise-snoc i [] x r low all = (low, tt)
 rise-snoc i (y ∷ ms) x r low all = (r .0, rise-snoc (suc (y .start)) ms x (r .1) (all y (inl refl)) (λ m h. all m (inr h)))
 
 -- ---- the marks of the rest of a text
--- what a slice from i on holds
-pub rest : (i : ℕ) (s : List ℕ) → take (length s - i) (drop i s) ≡ drop i s
-rest i s = let all = length-drop i s in take-all (length s - i) (drop i s) (omega arith)
-
 two-drop : (b : ℕ) (s : List ℕ) (i j : ℕ) → two b (drop i s) j ≡ two b s (i + j)
 two-drop b s i j =
     let e : i + suc j ≡ suc (i + j) = omega arith in

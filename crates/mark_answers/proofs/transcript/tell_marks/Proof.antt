@@ -3,7 +3,7 @@ use Prim.Native.Nat.{_-_, _≤_}
 use native.Mathlib.Omega.{arith}
 use lib.ListN.{length, drop}
 use borrow.Author.Needs.{needs}
-use Rattle.marks.proofs.mark.Marks.{rest}
+use Rattle.marks.proofs.utf8.Laws.{rest}
 use Rattle.marks.proofs.transcript.Laws.{Small, next-small}
 use Rattle.mark_answers.proofs.transcript.Laws.{Passing, pass-first, pass-last, pass-next, Telling, tell-first, tell-length, tell-last, tell-full}
 use Rattle.mark_answers.proofs.transcript.Laws.{tell-small, tell-few, tell-next}

@@ -4,7 +4,8 @@ use Prim.Native.Nat.{_+_, _-_}
 use native.Mathlib.Omega.{arith}
 use lib.ListN.{length, length-append}
 use borrow.Author.Needs.{needs}
-use Rattle.marks.proofs.mark.Marks.{rest, shifted, Upto, upto-first, upto-next, upto-last}
+use Rattle.marks.proofs.mark.Marks.{shifted, Upto, upto-first, upto-next, upto-last}
+use Rattle.marks.proofs.utf8.Laws.{rest}
 use Rattle.marks.specs.declared.mark.Mark.{Mark}
 use Rattle.marks.proofs.transcript.count_marks.Statement.{statement}
 use Rattle.marks.proofs.transcript.count_marks.Tie as tie

@@ -3,7 +3,7 @@ use Prim.Native.Nat.{_+_, _-_}
 use native.Mathlib.Omega.{arith}
 use lib.ListN.{length, drop}
 use borrow.Author.Needs.{needs}
-use Rattle.marks.proofs.mark.Marks.{rest}
+use Rattle.marks.proofs.utf8.Laws.{rest}
 use Rattle.marks.proofs.transcript.Laws.{Small, next-small, Filling, fill-first, fill-length, fill-room, fill-next, fill-last}
 use Rattle.marks.specs.Steps.{Fillable}
 use Rattle.marks.specs.Transcript.{IsNextMark}
