@@ -40,7 +40,7 @@ CountsMarks s n = (ms : List Mark) × (AreMarks s ms × (n ≡ length ms))
 
 -- ---- places
 -- the five numbers of a mark are put from the byte i on
-abbrev pub withPlace : List ℕ → ℕ → (start end first past number : ℕ) → List ℕ
+abbrev pub withPlace : List ℕ → ℕ → (start end start-character end-character number : ℕ) → List ℕ
 withPlace s i a e f p n = sets s i (placeBytes a e f p n)
 
 -- the transcript s is UTF-8, and its marks have their places

@@ -25,7 +25,7 @@ IsNextMark s (Next a e f p) = IsFirstMark s (At (record { start = a; end = e }))
 IsNextMark s NoMore = IsFirstMark s NoMark
 
 -- the bytes of five numbers
-abbrev pub placeBytes : (start end first past number : ℕ) → List ℕ
+abbrev pub placeBytes : (start end start-character end-character number : ℕ) → List ℕ
 placeBytes a e f p n = numberBytes a ++ numberBytes e ++ numberBytes f ++ numberBytes p ++ numberBytes n
 
 -- the bytes t tell the mark m of the transcript s with the characters cs: "its start and end in bytes and in characters, and its day or refusal"
