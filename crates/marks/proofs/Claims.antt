@@ -92,7 +92,9 @@ one-first s NoMark NoMark h k = refl
 -- And so in bytes and in characters.
 pub one-next : (s : List ℕ) (r q : NextMark) → IsNextMark s r → IsNextMark s q → r ≡ q
 one-next s (Next a e f p) (Next b i g q) h k =
-    let same = one-start (h .0 .0) (k .0 .0) (omega (arith, h .0 .1 (record { start = b; end = i }) (k .0 .0), k .0 .1 (record { start = a; end = e }) (h .0 .0))) in
+    let not-later = h .0 .1 (record { start = b; end = i }) (k .0 .0) in
+    let not-earlier = k .0 .1 (record { start = a; end = e }) (h .0 .0) in
+    let same = one-start (h .0 .0) (k .0 .0) (omega arith) in
     let first = ap (λ (m : Mark). m .start) same in
     let last = ap (λ (m : Mark). m .end) same in
     let before-start = h .1 .0 ∙ ap (λ (n : ℕ). starts (take n s)) first ∙ sym (k .1 .0) in

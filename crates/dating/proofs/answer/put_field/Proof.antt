@@ -28,7 +28,8 @@ returns-3 : tie.Need-returns-3
 returns-3 c =
     let a = c .before .before .before .before .before .before .before .args in
     let p = c .before .before .put-number .ensures in
-    let fits = room (a .at) 21 (length (a .buffer .now)) (c .before .before .before .before .before .if1 .left) (c .before .before .before .before .if2 .left) in
+    let k = c .before .before .before .before in
+    let fits = room (a .at) 21 (length (a .buffer .now)) (k .before .if1 .left) (k .if2 .left) in
     rw fits (omega (arith, p .behind), p .bytes)
 
 pub put-field-spec : {M : Type 1} → statement M

@@ -126,7 +126,8 @@ loop-again c =
     let m = p .before .before .before .before .start .given .0 in
     let e : l .loop .at + m .1 .0 + 2 ≡ l .loop .at + (m .1 .0 + 2) = omega arith in
     let k : l .loop .characters + m .1 .1 .1 .0 + 2 ≡ l .loop .characters + (m .1 .1 .1 .0 + 2) = omega arith in
-    rw (← e, ← k) (fill-next (l .loop .inv) (fillable p) _ (h .0) _ _ _ _ (h .1 .0) (h .1 .1) (p .before .number-of-line .ensures) (c .before .before .put-place .ensures))
+    let number = p .before .number-of-line .ensures in
+    rw (← e, ← k) (fill-next (l .loop .inv) (fillable p) _ (h .0) _ _ _ _ (h .1 .0) (h .1 .1) number (c .before .before .put-place .ensures))
 
 pub fill-places-spec : {M : Type 1} → statement M
 fill-places-spec =

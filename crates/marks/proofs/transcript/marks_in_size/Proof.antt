@@ -12,7 +12,9 @@ returns : tie.Need-returns
 returns c = too-long _ _ (omega (arith, c .if1 .taken))
 
 returns-2 : tie.Need-returns-2
-returns-2 c = not-utf8 _ _ (omega (arith, c .before .before .if1 .left)) (rw (not-true (c .before .is-utf8 .result) (c .if2 .taken)) at (c .before .is-utf8 .ensures))
+returns-2 c =
+    let bad = rw (not-true (c .before .is-utf8 .result) (c .if2 .taken)) at (c .before .is-utf8 .ensures) in
+    not-utf8 _ _ (omega (arith, c .before .before .if1 .left)) bad
 
 -- the transcript is not too long, and is UTF-8
 read : (c : tie.Else2) → let s = c .before .before .before .before .args .text .now in (length s ≤ 65536) × IsUtf8 s
