@@ -103,7 +103,8 @@ fitting-on u (full x) h = h
 fitting-on u (next {a = a} {u = v} x told rest) h = (a, (v ++ u, (told, (fitting-on u rest h, append-assoc a v u))))
 
 -- where 49 bytes are free and no mark is told, there is none
-none-left : {s cs : List ℕ} {room : ℕ} {ms : List Mark} {t : List ℕ} {k : ℕ} → 49 ≤ room → k ≡ 0 → TellsFitting s cs room ms t k → TellsMarks s cs ms t
+none-left : {s cs : List ℕ} {room : ℕ} {ms : List Mark} {t : List ℕ} {k : ℕ} → 49 ≤ room → k ≡ 0
+    → TellsFitting s cs room ms t k → TellsMarks s cs ms t
 none-left room e all-told = refl
 none-left room e (full x) = absurd (omega arith)
 none-left room e (next x told rest) = absurd (omega arith)

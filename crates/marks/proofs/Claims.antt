@@ -120,7 +120,8 @@ same-found : {s b a c d : List ℕ} {n k : ℕ} (h : Found s b a n) (l : Found s
 same-found {s} h l =
     let marks = mark-laws.one-marks (h .are-marks) (l .are-marks) in
     let points = one-list (h .spells) (l .spells) in
-    (h .count ∙ ap length marks ∙ sym (l .count), one-places s (l .characters) (l .marks) (h .text) (l .text) (rw (points, marks) at (h .places)) (l .places))
+    let told = rw (points, marks) at (h .places) in
+    (h .count ∙ ap length marks ∙ sym (l .count), one-places s (l .characters) (l .marks) (h .text) (l .text) told (l .places))
 
 places-length : (s cs : List ℕ) (ms : List Mark) (t : List ℕ) → Places s cs ms t → length t ≡ length ms * 20
 places-length s cs [] t h = ap length h
@@ -148,7 +149,8 @@ later-stay s b a n h = rw (text-length h, h .bytes) (drop-append-seam (h .text) 
 
 -- ---- what is refused
 -- two results behind the same conditions are both refused by one refusal, or both answered
-pub both-checked : (R S : Refusal → Type 0) {A B : Type 0} (cs : List Condition) → Checked R A cs → Checked S B cs → ((x : Refusal) × (R x × S x)) ⊎ (A × B)
+pub both-checked : (R S : Refusal → Type 0) {A B : Type 0} (cs : List Condition) → Checked R A cs → Checked S B cs
+    → ((x : Refusal) × (R x × S x)) ⊎ (A × B)
 both-checked R S [] h k = inr (h, k)
 both-checked R S (x unless holds ∷ cs) (inl h) (inl k) = inl (x, (h .1, k .1))
 both-checked R S (x unless holds ∷ cs) (inl h) (inr k) = absurd (h .0 (k .0))

@@ -59,7 +59,8 @@ module _ {before : List ℕ} {i k : ℕ} {w mid : List ℕ} {place : ℕ} (p : F
           }
 
 -- the answer is put behind the four fields
-pub answer-put : {before : List ℕ} {i : ℕ} {mid : List ℕ} {place : ℕ} (s : List ℕ) (start end start-character end-character : ℕ) (after : List ℕ) (r : ℕ)
+pub answer-put : {before : List ℕ} {i : ℕ} {mid : List ℕ} {place : ℕ} (s : List ℕ)
+    (start end start-character end-character : ℕ) (after : List ℕ) (r : ℕ)
     → Fields before i 4 (markFields start end start-character end-character) mid place → i + 49 ≤ length before → PutsAnswer s place mid after r
     → PutsMark s start end start-character end-character i before after (place + r)
 answer-put {before} {i} {mid} {place} s start end start-character end-character after r p room h =

@@ -146,7 +146,8 @@ record Stands (b c : ℕ) (s : List ℕ) (i : ℕ) : Type 0 where
   other : pair c s i ≡ false
   other-next : pair c s (suc i) ≡ false
 
-stands : (b c : ℕ) (s : List ℕ) (i : ℕ) → (b ≡ c → ⊥) → pair b s i ≡ two b s i → pair c s i ≡ two c s i → two b s i ≡ true → Stands b c s i
+stands : (b c : ℕ) (s : List ℕ) (i : ℕ) → (b ≡ c → ⊥) → pair b s i ≡ two b s i → pair c s i ≡ two c s i → two b s i ≡ true
+    → Stands b c s i
 stands b c s i differ free free-other h =
     let k = two-bytes b s i h in
     let none = free-other ∙ two-not c s i (λ e x. differ (sym (k .0) ∙ e)) in

@@ -93,7 +93,8 @@ reach-first s = record { upto = upto-first s; counted = refl }
 counted-on : (s : List ℕ) (i j k : ℕ) → k ≡ starts (take i s) → k + starts (take j (drop i s)) ≡ starts (take (i + j) s)
 counted-on s i j k e = rw e (sym (starts-append (take i s) (take j (drop i s))) ∙ ap starts (sym (take-add i j s)))
 
-pub counted-to : (s : List ℕ) (i j k n : ℕ) → i ≤ j → k ≡ starts (take i s) → n ≡ starts (take (j - i) (drop i s)) → k + n ≡ starts (take j s)
+pub counted-to : (s : List ℕ) (i j k n : ℕ) → i ≤ j → k ≡ starts (take i s) → n ≡ starts (take (j - i) (drop i s))
+    → k + n ≡ starts (take j s)
 counted-to s i j k n h e f = let to : i + (j - i) ≡ j = omega arith in rw f (counted-on s i (j - i) k e ∙ ap (λ (l : ℕ). starts (take l s)) to)
 
 -- no more characters begin than there are bytes
@@ -128,7 +129,8 @@ ending-counts {s} {m} h =
     let inside = end-inside h in
     let e : m .end + 2 ≡ suc (suc (m .end)) = omega arith in
     let bytes = ends-in h in
-    let two-more = take-suc s (suc (m .end)) 0 (omega arith) ∙ ap (λ (t : List ℕ). t ++ getD s (suc (m .end)) 0 ∷ []) (take-suc s (m .end) 0 (omega arith)) in
+    let one-more = take-suc s (m .end) 0 (omega arith) in
+    let two-more = take-suc s (suc (m .end)) 0 (omega arith) ∙ ap (λ (t : List ℕ). t ++ getD s (suc (m .end)) 0 ∷ []) one-more in
     let first = starts-append (take (m .end) s) (getD s (m .end) 0 ∷ []) in
     let second = starts-append (take (m .end) s ++ getD s (m .end) 0 ∷ []) (getD s (suc (m .end)) 0 ∷ []) in
     rw (e, two-more, second, first, bytes .0, bytes .1) (omega arith)
@@ -281,7 +283,8 @@ module _ (s : List ℕ) (size : ℕ) where
     too-few u n k many = inr (short, inr (u, inl (λ h. omega (arith, k .1 .1, h .1 .1, ap length (one-marks (h .1 .0) (k .1 .0))), refl)))
 
 -- what follows from a refusal and from an answer follows behind the same conditions
-pub checked-on : (R S : Refusal → Type 0) {A B : Type 0} (cs : List Condition) → ((x : Refusal) → R x → S x) → (A → B) → Checked R A cs → Checked S B cs
+pub checked-on : (R S : Refusal → Type 0) {A B : Type 0} (cs : List Condition) → ((x : Refusal) → R x → S x) → (A → B)
+    → Checked R A cs → Checked S B cs
 checked-on R S [] f g h = g h
 checked-on R S (x unless holds ∷ cs) f g (inl h) = inl (h .0, f x (h .1))
 checked-on R S (x unless holds ∷ cs) f g (inr h) = inr (h .0, checked-on R S cs f g (h .1))
