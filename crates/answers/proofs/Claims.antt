@@ -5,11 +5,13 @@ use mathlib.Core.Path.{_≡_, refl, sym, _∙_}
 use Prim.Native.Nat.{ℕ}
 use lib.ListN.{length, take, drop}
 use lib.Seq.{take-append-seam}
-use Rattle.answers.proofs.Lines as lines
 use Rattle.answers.proofs.Lines.{lines-have, lines-known}
 use Rattle.answers.proofs.block.Laws.{one-written, written-text}
 use Rattle.answers.proofs.block.Laws as laws
+use Rattle.dating.proofs.Claims.{one-text}
+use Rattle.places.proofs.Turn.{one-turn}
 use Rattle.words.specs.Text.{has}
+use Rattle.dating.specs.Answer.{IsAnswer}
 use Rattle.answers.specs.Block.{kept, AnswersBlock, AnswersLast, joined, Run}
 use Rattle.answers.specs.Lines.{endedLines, openLine, lastLine, linesOf, HasLines, Answers, IsOutput}
 use Rattle.answers.specs.declared.block.Progress.{Progress}
@@ -38,15 +40,15 @@ last-step k o p n h = written-text h
 
 -- An input has no two outputs.
 pub one-output : (s t u : List ℕ) → IsOutput s t → IsOutput s u → t ≡ u
-one-output s t u h k = lines.one-output (linesOf s) t u h k
+one-output s t u h k = one-turn IsAnswer one-text (linesOf s) t u h k
 
 -- Any two results of a block are one: the same numbers, and the same bytes in both buffers.
 pub one-block : (s b m n o p q : List ℕ) (r u : Progress) → AnswersBlock s b m o p r → AnswersBlock s b n o q u → (r ≡ u) × ((m ≡ n) × (p ≡ q))
 one-block s b m n o p q r u h k =
-    let output = one-written (Answers (endedLines [] s)) (lines.one-output (endedLines [] s)) o p q (r .written) (u .written) (h .output) (k .output) in
+    let output = one-written (Answers (endedLines [] s)) (one-turn IsAnswer one-text (endedLines [] s)) o p q (r .written) (u .written) (h .output) (k .output) in
     let keeps = h .keeps ∙ sym (k .keeps) in
     (λ i. record { written = output .0 i; kept = keeps i }, (h .buffer ∙ sym (k .buffer), output .1))
 
 -- Any two results of the last line are one: the same number, and the same bytes in the buffer.
 pub one-last : (s o p q : List ℕ) (r u : ℕ) → AnswersLast s o p r → AnswersLast s o q u → (r ≡ u) × (p ≡ q)
-one-last s o p q r u h k = one-written (Answers (lastLine s)) (lines.one-output (lastLine s)) o p q r u h k
+one-last s o p q r u h k = one-written (Answers (lastLine s)) (one-turn IsAnswer one-text (lastLine s)) o p q r u h k

@@ -1,3 +1,4 @@
 -- Claims is what a run promises beyond the contracts of its calls; the rest are steps to it.
 mod Lines
+mod Walk
 pub mod Claims

@@ -1,16 +1,17 @@
--- Lines byte by byte, and their answers one behind the other.
+-- Lines byte by byte, and by their shape.
 use mathlib.Core.Bool.{false}
 use mathlib.Core.List.{List, [], _∷_, _++_, append-nil, append-assoc}
 use mathlib.Core.Logic.{inl, inr}
-use mathlib.Core.Path.{_≡_, refl, sym, _∙_, ap, ap₂}
-use Prim.Native.Nat.{ℕ}
+use mathlib.Core.Path.{_≡_, refl, sym, _∙_, ap}
+use Prim.Native.Nat.{ℕ, _+_, _≤_}
+use native.Mathlib.Omega.{arith}
 use lib.Dec.{eqb}
+use lib.ListN.{length, length-append}
 use borrow.Author.Tests.{eqb-true}
 use Rattle.words.proofs.text.Laws.{either, neither, has-append}
-use Rattle.dating.proofs.Claims.{one-text}
 use Rattle.words.specs.Text.{has}
-use Rattle.dating.specs.Answer.{lineFeed, IsAnswer}
-use Rattle.answers.specs.Lines.{endedLines, openLine, lastLine, linesOf, HasLines, none, ended, unended, Answers}
+use Rattle.dating.specs.Answer.{lineFeed}
+use Rattle.answers.specs.Lines.{endedLines, openLine, lastLine, linesOf, HasLines, none, ended, unended}
 
 -- ---- lines of bytes one behind the other
 -- bytes and one more that is no line feed
@@ -58,6 +59,28 @@ open-lacks p (c ∷ s) h =
       | inr e ↦ rw e (open-lacks (p ++ c ∷ []) s (lacks-on p c h e))
     ]
 
+-- bytes that no line feed ends are a line
+pub last-some : (s : List ℕ) → 1 ≤ length s → lastLine s ≡ s ∷ []
+last-some [] h = absurd (omega arith)
+last-some (c ∷ s) h = refl
+
+-- a line takes a byte or more: its line feed, or where that lacks its own
+bytes-enough : (p s : List ℕ) → length (endedLines p s) + length (openLine p s) ≤ length p + length s
+unfolding endedLines openLine
+bytes-enough p [] = omega arith
+bytes-enough p (c ∷ s) =
+    elim (either (eqb c lineFeed)) [
+      | inl e ↦ rw e (omega (arith, bytes-enough [] s))
+      | inr e ↦ rw e (omega (arith, bytes-enough (p ++ c ∷ []) s, length-append p (c ∷ [])))
+    ]
+
+last-few : (s : List ℕ) → length (lastLine s) ≤ length s
+last-few [] = omega arith
+last-few (c ∷ s) = omega arith
+
+pub lines-few : (s : List ℕ) → length (linesOf s) ≤ length s
+lines-few s = omega (arith, length-append (endedLines [] s) (lastLine (openLine [] s)), bytes-enough [] s, last-few (openLine [] s))
+
 -- ---- lines by their shape
 last-has : (p : List ℕ) → has lineFeed p ≡ false → HasLines p (lastLine p)
 last-has [] h = none
@@ -79,24 +102,3 @@ lines-known (ended {l} {s} h r) =
     let whole = open-whole [] l h in
     rw (ended-append [] l (lineFeed ∷ s), open-append [] l (lineFeed ∷ s), whole .0, whole .1) (ap (λ (ls : List (List ℕ)). l ∷ ls) (lines-known r))
 lines-known (unended {c} {l} h) = let whole = open-whole [] (c ∷ l) h in rw (whole .0, whole .1)
-
--- ---- answers one behind the other
-pub answers-append : (ls ms : List (List ℕ)) (t u : List ℕ) → Answers ls t → Answers ms u → Answers (ls ++ ms) (t ++ u)
-answers-append [] ms t u h k = rw h k
-answers-append (l ∷ ls) ms t u (a, (v, (told, (rest, e)))) k =
-    (a, (v ++ u, (told, (answers-append ls ms v u rest k, ap (λ (x : List ℕ). x ++ u) e ∙ append-assoc a v u))))
-
-pub one-answered : (l t : List ℕ) → IsAnswer l t → Answers (l ∷ []) t
-one-answered l t told = (t, ([], (told, (refl, sym (append-nil t)))))
-
-pub answers-split : (ls ms : List (List ℕ)) (t : List ℕ) → Answers (ls ++ ms) t
-    → (a : List ℕ) × ((u : List ℕ) × (Answers ls a × (Answers ms u × (t ≡ a ++ u))))
-answers-split [] ms t h = ([], (t, (refl, (h, refl))))
-answers-split (l ∷ ls) ms t (x, (v, (told, (rest, e)))) =
-    let (a, (u, (first, (second, f)))) = answers-split ls ms v rest in
-    (x ++ a, (u, ((x, (a, (told, (first, refl)))), (second, e ∙ ap (λ (y : List ℕ). x ++ y) f ∙ sym (append-assoc x a u)))))
-
-pub one-output : (ls : List (List ℕ)) (t u : List ℕ) → Answers ls t → Answers ls u → t ≡ u
-one-output [] t u h k = h ∙ sym k
-one-output (l ∷ ls) t u (a, (v, (told, (rest, e)))) (b, (w, (also, (others, f)))) =
-    e ∙ ap₂ (λ (x y : List ℕ). x ++ y) (one-text l a b told also) (one-output ls v w rest others) ∙ sym f

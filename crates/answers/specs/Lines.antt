@@ -6,6 +6,7 @@ use Prim.Native.Nat.{ℕ}
 use lib.Dec.{eqb}
 use Rattle.words.specs.Text.{has}
 use Rattle.dating.specs.Answer.{lineFeed, IsAnswer}
+use Rattle.places.specs.Turn.{InTurn}
 
 -- the lines that the line feeds in s end; p are the bytes of the first that stand before s
 unfoldable pub endedLines : List ℕ → List ℕ → List (List ℕ)
@@ -22,7 +23,7 @@ abbrev pub lastLine : List ℕ → List (List ℕ)
 lastLine [] = []
 lastLine (c ∷ s) = (c ∷ s) ∷ []
 
--- "dating lines ended by a line feed (the last may lack it)"
+-- "dating lines ended by a line feed (the last may lack it)": of a page, "A last line feed ends a line and opens none; a page of no bytes has no lines"
 abbrev pub linesOf : List ℕ → List (List ℕ)
 linesOf s = endedLines [] s ++ lastLine (openLine [] s)
 
@@ -34,8 +35,7 @@ pub data HasLines : List ℕ → List (List ℕ) → Type 0 where
 
 -- t has the answer to each line, one behind the other
 abbrev pub Answers : List (List ℕ) → List ℕ → Type 0
-Answers [] t = t ≡ []
-Answers (l ∷ ls) t = (a : List ℕ) × ((u : List ℕ) × (IsAnswer l a × (Answers ls u × (t ≡ a ++ u))))
+Answers = InTurn IsAnswer
 
 -- t is the output for the input s
 abbrev pub IsOutput : List ℕ → List ℕ → Type 0

@@ -1,2 +1,3 @@
--- Numbers in lent bytes.
+-- Bytes put one behind the other, and numbers in lent bytes.
 pub mod Number
+pub mod Turn

@@ -12,11 +12,13 @@ use lib.ListN.{length, take, drop, getD, set, length-append, length-take, length
 use lib.Seq.{length-take-le, take-all, take-length, take-suc, take-append-seam, take-append-le, take-take, take-add, drop-cons, drop-at}
 use lib.Seq.{append-snoc, getD-append-add, getD-drop, set-append-seam, sets, length-sets}
 use borrow.Author.Tests.{eq-eqb, ne-eqb, le-leb}
-use Rattle.words.proofs.text.Laws.{either, neither, rest}
+use Rattle.words.proofs.text.Laws.{either, neither}
 use Rattle.dating.proofs.answer.Laws.{answer-length, overlong}
-use Rattle.places.proofs.Bytes.{sets-both, sets-start}
-use Rattle.answers.proofs.Lines.{linesFrom, ended-append, open-append, open-whole, open-lacks}
-use Rattle.answers.proofs.Lines.{answers-append, one-answered, answers-split}
+use Rattle.places.proofs.Bytes.{sets-start}
+use Rattle.places.proofs.Turn.{turn-append, turn-one, turn-split}
+use Rattle.answers.proofs.Lines.{linesFrom, last-some, ended-append, open-append, open-whole, open-lacks}
+use Rattle.answers.proofs.Walk as walk
+use Rattle.answers.proofs.Walk.{Sofar, sofar-length, all-told, all-left}
 use Rattle.words.specs.Text.{has, over}
 use Rattle.dating.specs.Answer.{lineFeed, IsAnswer, PutsAnswer}
 use Rattle.answers.specs.Block.{kept, Written, AnswersBlock, AnswersLast, joined, Run}
@@ -122,132 +124,68 @@ run-on o [] t lacks h = kept-last o t .0 h
 run-on o (b ∷ bs) t lacks (a, (u, (first, (rest, e)))) =
     let here = alike-answers (kept o) o b a (kept-alike o) (rw (kept-lines o b lacks) at first) in
     let there = run-on (openLine o b) bs u (open-lacks o b lacks) (rw (kept-next o b lacks) at rest) in
-    rw (e, parted o b (joined bs)) (answers-append (endedLines o b) (linesFrom (openLine o b) (joined bs)) a u here there)
+    rw (e, parted o b (joined bs)) (turn-append IsAnswer (endedLines o b) (linesFrom (openLine o b) (joined bs)) a u here there)
 
 pub run-back : (o : List ℕ) (bs : List (List ℕ)) (t : List ℕ) → has lineFeed o ≡ false → Answers (linesFrom o (joined bs)) t → Run (kept o) bs t
 unfolding endedLines openLine
 run-back o [] t lacks h = kept-last o t .1 h
 run-back o (b ∷ bs) t lacks h =
     let lines = linesFrom (openLine o b) (joined bs) in
-    let (a, (u, (first, (rest, e)))) = answers-split (endedLines o b) lines t (rw (parted o b (joined bs)) at h) in
+    let (a, (u, (first, (rest, e)))) = turn-split IsAnswer (endedLines o b) lines t (rw (parted o b (joined bs)) at h) in
     let here = alike-answers o (kept o) b a (alike-back (kept o) o (kept-alike o)) first in
     let there = run-back (openLine o b) bs u (open-lacks o b lacks) rest in
     (a, (u, (rw (kept-lines o b lacks) here, (rw (kept-next o b lacks) there, e))))
 
--- ---- one more byte
-line-feed : (s : List ℕ) (c : ℕ) → c ≡ lineFeed
-    → (endedLines [] (s ++ c ∷ []) ≡ endedLines [] s ++ openLine [] s ∷ []) × (openLine [] (s ++ c ∷ []) ≡ [])
-unfolding endedLines openLine
-line-feed s c e = rw (ended-append [] s (c ∷ []), open-append [] s (c ∷ []), eq-eqb c lineFeed e) (refl, refl)
-
-no-line-feed : (s : List ℕ) (c : ℕ) → (c ≡ lineFeed → ⊥)
-    → (endedLines [] (s ++ c ∷ []) ≡ endedLines [] s) × (openLine [] (s ++ c ∷ []) ≡ openLine [] s ++ c ∷ [])
-unfolding endedLines openLine
-no-line-feed s c n = rw (ended-append [] s (c ∷ []), open-append [] s (c ∷ []), ne-eqb c lineFeed n) (append-nil (endedLines [] s), refl)
-
--- the lines that end in the first i bytes of s are answered, and the open line begins at start
-pub record Sofar (s before : List ℕ) (written start i : ℕ) (after : List ℕ) : Type 0 where
-  pub text : List ℕ
-  pub answers : Answers (endedLines [] (take i s)) text
-  pub count : written ≡ length text
-  pub output : after ≡ sets before 0 text
-  pub begun : start ≤ i
-  pub inside : i ≤ length s
+-- ---- a block byte by byte
+-- the lines that end in the first i bytes of s are answered, each with at most four times the bytes of the line with its line feed
+pub record Answering (s before : List ℕ) (written start i : ℕ) (after : List ℕ) : Type 0 where
+  pub sofar : Sofar IsAnswer s before written start i after
   pub small : written ≤ 4 * start
-  pub left : take (i - start) (drop start s) ≡ openLine [] (take i s)
 
-pub at-first : (s before : List ℕ) → Sofar s before 0 0 0 before
-unfolding endedLines openLine
-at-first s before =
-    record { text = []; answers = refl; count = refl; output = refl; begun = omega arith; inside = omega arith; small = omega arith; left = refl }
+pub at-first : (s before : List ℕ) → Answering s before 0 0 0 before
+at-first s before = record { sofar = walk.at-first IsAnswer s before; small = omega arith }
 
-module _ {s before : List ℕ} {written start i : ℕ} {after : List ℕ} (p : Sofar s before written start i after) where
-  pub sofar-length : length after ≡ length before
-  sofar-length = ap length (p .output) ∙ length-sets before 0 (p .text)
-
+module _ {s before : List ℕ} {written start i : ℕ} {after : List ℕ} (p : Answering s before written start i after) where
   module _ (more : i < length s) where
-    abbrev byte : ℕ
-    byte = getD s i 0
+    pub another-byte : (getD s i 0 ≡ lineFeed → ⊥) → Answering s before written start (i + 1) after
+    another-byte other = record { sofar = walk.another-byte (p .sofar) more other; small = p .small }
 
-    one-more : take (i + 1) s ≡ take i s ++ byte ∷ []
-    one-more = rw add-one (take-suc s i 0 more)
-
-    -- the open line with one more byte
-    longer : take (i + 1 - start) (drop start s) ≡ openLine [] (take i s) ++ byte ∷ []
-    longer =
-        let begun = p .begun in
-        let k : i + 1 - start ≡ suc (i - start) = omega arith in
-        let at : start + (i - start) ≡ i = omega arith in
-        let size = length-drop start s in
-        rw (k, take-suc (drop start s) (i - start) 0 (omega arith), getD-drop start s (i - start) 0, at, p .left)
-
-    pub another-byte : (byte ≡ lineFeed → ⊥) → Sofar s before written start (i + 1) after
-    another-byte other =
-        let next = no-line-feed (take i s) byte other in
-        let begun = p .begun in
-        record {
-          text = p .text;
-          answers = rw (one-more, next .0) (p .answers);
-          count = p .count;
-          output = p .output;
-          begun = omega arith;
-          inside = omega arith;
-          small = p .small;
-          left = longer ∙ rw (one-more, next .1);
-        }
-
-    pub line-end : 4 * length s + 25 ≤ length before → (now : List ℕ) (r : ℕ) → byte ≡ lineFeed
-        → PutsAnswer (take (i - start) (drop start s)) written after now r → Sofar s before (written + r) (i + 1) (i + 1) now
+    pub line-end : 4 * length s + 25 ≤ length before → (now : List ℕ) (r : ℕ) → getD s i 0 ≡ lineFeed
+        → PutsAnswer (take (i - start) (drop start s)) written after now r → Answering s before (written + r) (i + 1) (i + 1) now
     line-end room now r ends h = go (rw (le-leb (written + 25) (length after) has-room) at h)
       where
         has-room : written + 25 ≤ length after
-        has-room = omega (arith, sofar-length, p .small, p .begun)
+        has-room = omega (arith, sofar-length (p .sofar), p .small, p .sofar .begun)
 
         line : List ℕ
         line = take (i - start) (drop start s)
 
-        go : (t : List ℕ) × (IsAnswer line t × ((r ≡ length t) × (now ≡ sets after written t))) → Sofar s before (written + r) (i + 1) (i + 1) now
+        go : (t : List ℕ) × (IsAnswer line t × ((r ≡ length t) × (now ≡ sets after written t)))
+            → Answering s before (written + r) (i + 1) (i + 1) now
         go (t, (told, (count, bytes))) =
-            let next = line-feed (take i s) byte ends in
-            let begun = p .begun in
+            let begun = p .sofar .begun in
             let small = p .small in
-            let total = length-append (p .text) t in
             let size = length-drop start s in
             let its-length = length-take-le (i - start) (drop start s) (omega arith) in
             let few = answer-length line t told .1 in
-            let k : i + 1 - (i + 1) ≡ 0 = omega arith in
-            let first : 0 + length (p .text) ≡ written = omega (arith, p .count) in
-            let line-open = openLine [] (take i s) in
-            let one = one-answered line-open t (rw (p .left) at told) in
-            record {
-              text = p .text ++ t;
-              answers = rw (one-more, next .0) (answers-append (endedLines [] (take i s)) (line-open ∷ []) (p .text) t (p .answers) one);
-              count = omega (arith, p .count);
-              output = bytes ∙ rw (p .output, ← first) (sets-both (p .text) t before 0);
-              begun = omega arith;
-              inside = omega arith;
-              small = omega arith;
-              left = rw (k, one-more, next .1);
-            }
+            record { sofar = rw count (walk.line-end (p .sofar) more t now ends told bytes); small = omega arith }
 
   pub all-ended : length s ≤ i → 4 * length s + 25 ≤ length before → AnswersEnded s before after (record { written = written; start = start })
   all-ended end room =
-      let begun = p .begun in
-      let inside = p .inside in
+      let begun = p .sofar .begun in
+      let inside = p .sofar .inside in
       let small = p .small in
-      let count = p .count in
-      let whole = take-all i s end in
-      let k : i - start ≡ length s - start = omega arith in
+      let count = p .sofar .count in
       record {
         output = record {
-          text = p .text;
-          answers = rw whole at (p .answers);
+          text = p .sofar .text;
+          answers = all-told (p .sofar) end;
           room = omega arith;
           count = count;
-          bytes = p .output ∙ sets-start (p .text) before (omega arith);
+          bytes = p .sofar .output ∙ sets-start (p .sofar .text) before (omega arith);
         };
         inside = omega arith;
-        left = sym (rest start s) ∙ rw (k, whole) at (p .left);
+        left = all-left (p .sofar) end;
       }
 
 -- ---- bytes moved to the start
@@ -288,10 +226,6 @@ filled-part n s =
       | yes h ↦ let e : min n (length s) ≡ n = omega arith in rw e
       | no h ↦ let e : min n (length s) ≡ length s = omega arith in rw e (take-length s) ∙ sym (take-all n s (omega arith))
     ]
-
-last-some : (s : List ℕ) → 1 ≤ length s → lastLine s ≡ s ∷ []
-last-some [] h = absurd (omega arith)
-last-some (c ∷ s) h = refl
 
 module _ (n : ℕ) (b : List ℕ) {e : ℕ} (part : e ≡ min n (length b)) where
   front : take e b ≡ take n b
@@ -342,7 +276,7 @@ module _ (n : ℕ) (b : List ℕ) {e : ℕ} (part : e ≡ min n (length b)) wher
           let few = answer-length (take e b) t told .0 in
           rw (← front) (record {
             text = t;
-            answers = rw (last-some (take e b) (omega arith)) (one-answered (take e b) t told);
+            answers = rw (last-some (take e b) (omega arith)) (turn-one IsAnswer (take e b) t told);
             room = omega arith;
             count = count;
             bytes = bytes ∙ sets-start t o (omega arith);

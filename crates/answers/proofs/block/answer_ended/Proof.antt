@@ -3,12 +3,13 @@ use Prim.Native.Nat.{_-_}
 use native.Mathlib.Omega.{arith}
 use lib.ListN.{length}
 use borrow.Author.Needs.{needs}
-use Rattle.answers.proofs.block.Laws.{Sofar, at-first, sofar-length, another-byte, line-end, all-ended}
+use Rattle.answers.proofs.block.Laws.{Answering, at-first, another-byte, line-end, all-ended}
+use Rattle.answers.proofs.Walk.{sofar-length}
 use Rattle.answers.proofs.block.answer_ended.Statement.{statement}
 use Rattle.answers.proofs.block.answer_ended.Tie as tie
 
 abbrev Inv-loop : tie.InvT-loop
-Inv-loop input output₀ written₀ start₀ i₀ output written start i = Sofar input output₀ written start i output
+Inv-loop input output₀ written₀ start₀ i₀ output written start i = Answering input output₀ written start i output
 
 abbrev μ-loop : tie.MeasureT-loop
 μ-loop input output₀ written₀ start₀ i₀ output written start i = length input - i
@@ -20,13 +21,13 @@ shared-slice-read-if1 : tie.Need-shared-slice-read-if1 Inv-loop μ-loop
 shared-slice-read-if1 c = c .before .loop-test .taken
 
 sub-put-answer : tie.Need-sub-put-answer Inv-loop μ-loop
-sub-put-answer c = c .before .before .before .loop .inv .begun
+sub-put-answer c = c .before .before .before .loop .inv .sofar .begun
 
 part-put-answer-start : tie.Need-part-put-answer-start Inv-loop μ-loop
-part-put-answer-start c = search (needs, c .before .before .before .loop .inv)
+part-put-answer-start c = search (needs, c .before .before .before .loop .inv .sofar)
 
 part-put-answer-end : tie.Need-part-put-answer-end Inv-loop μ-loop
-part-put-answer-end c = search (needs, c .before .before .before .loop .inv)
+part-put-answer-end c = search (needs, c .before .before .before .loop .inv .sofar)
 
 add-written : tie.Need-add-written Inv-loop μ-loop
 add-written c =
@@ -56,7 +57,7 @@ loop-again c =
     (c .if1 .came)
 
 same-length : tie.Need-same-length Inv-loop μ-loop
-same-length c = sofar-length (c .before .loop .inv)
+same-length c = sofar-length (c .before .loop .inv .sofar)
 
 returns : tie.Need-returns Inv-loop μ-loop
 returns c = all-ended (c .before .loop .inv) (c .loop-test .left) (c .before .before .before .before .pre)
