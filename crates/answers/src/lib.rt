@@ -1,3 +1,5 @@
-// The answers to an input of any length, which comes in blocks. No public function has a `requires`,
-// and the contract of each is a relation that allows one answer only.
+// Many lines: the answers to an input of any length, which comes in blocks, and the numbers of a page's
+// lines. No public function has a `requires`, and the contract of each is an equation, or a relation that
+// allows one answer only.
 pub mod block;
+pub mod page;

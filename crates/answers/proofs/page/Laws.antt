@@ -1,0 +1,209 @@
+-- Lines counted byte by byte, and their places filled one behind the other.
+use mathlib.Core.Bool.{true, false}
+use mathlib.Core.List.{List, [], _∷_, _++_, append-nil}
+use mathlib.Core.Path.{_≡_, refl, sym, _∙_, ap}
+use Prim.Native.Nat.{ℕ, suc, _+_, _-_, _*_, _/_, _<_, _≤_}
+use native.Mathlib.Omega.{arith}
+use lib.ListN.{length, take, drop, getD, length-append, length-drop, take-append-drop, drop-of-length-le}
+use lib.Seq.{take-all, sets}
+use borrow.Author.Tests.{leb-true, le-leb, lt-leb}
+use Rattle.calendar.proofs.refusal.Laws.{AllPass, checked-map, checked-on}
+use Rattle.places.proofs.Bytes.{sets-both, sets-start}
+use Rattle.places.proofs.Turn.{turn-append, turn-one, turn-length}
+use Rattle.places.proofs.number.Laws.{number-length, number-first}
+use Rattle.answers.proofs.Lines.{ended-append, last-some}
+use Rattle.answers.proofs.Walk.{line-feed, no-line-feed, one-more, Sofar, sofar-length, line-end, all-told, all-left}
+use Rattle.calendar.specs.Refusal.{Test, _unless_, checked}
+use Rattle.dating.specs.Answer.{lineFeed}
+use Rattle.dating.specs.Line.{IsNumberOfLine}
+use Rattle.places.specs.Number.{numberBytes, withNumber}
+use Rattle.places.specs.Turn.{InTurn}
+use Rattle.answers.specs.Lines.{endedLines, openLine, lastLine, linesOf}
+use Rattle.answers.specs.Page.{pageTests, IsPlace, Filled, FillsPage, pageRefusal, pageRefusalOf}
+use Rattle.answers.specs.Steps.{linesInSize}
+use Rattle.calendar.specs.declared.refusal.Refusal.the-variants.{Length}
+use Rattle.calendar.specs.declared.refusal.Refusal.{Refusal}
+use Rattle.answers.specs.declared.page.PageAnswer.the-variants.{Lines, NoPage}
+use Rattle.answers.specs.declared.page.PageAnswer.{PageAnswer}
+
+-- ---- how many lines there are
+-- a line that lacks its line feed is one more
+pub line-count : (s : List ℕ) → length (linesOf s) ≡ length (endedLines [] s) + length (lastLine (openLine [] s))
+line-count s = length-append (endedLines [] s) (lastLine (openLine [] s))
+
+-- the lines that end in the first i bytes are counted
+pub record Counted (s : List ℕ) (count i : ℕ) : Type 0 where
+  pub lines : count ≡ length (endedLines [] (take i s))
+  pub few : count ≤ i
+  pub inside : i ≤ length s
+
+pub count-first : (s : List ℕ) → Counted s 0 0
+unfolding endedLines
+count-first s = record { lines = refl; few = omega arith; inside = omega arith }
+
+module _ {s : List ℕ} {count i : ℕ} (p : Counted s count i) (more : i < length s) where
+  pub count-end : getD s i 0 ≡ lineFeed → Counted s (count + 1) (i + 1)
+  count-end ends =
+      let next = line-feed (take i s) (getD s i 0) ends in
+      let one = length-append (endedLines [] (take i s)) (openLine [] (take i s) ∷ []) in
+      record { lines = rw (one-more s i more, next .0) (omega (arith, p .lines)); few = omega (arith, p .few); inside = omega arith }
+
+  pub count-byte : (getD s i 0 ≡ lineFeed → ⊥) → Counted s count (i + 1)
+  count-byte other =
+      let next = no-line-feed (take i s) (getD s i 0) other in
+      record { lines = rw (one-more s i more, next .0) (p .lines); few = omega (arith, p .few); inside = omega arith }
+
+pub no-lines : (s : List ℕ) → length s ≡ 0 → length (linesOf s) ≡ 0
+unfolding endedLines openLine
+no-lines [] e = refl
+no-lines (c ∷ s) e = absurd (omega arith)
+
+-- the last byte decides whether a line lacks its line feed
+module _ {s : List ℕ} {count i : ℕ} (p : Counted s count i) (end : length s ≤ i) (some : 1 ≤ length s) where
+  abbrev front : List ℕ
+  front = take (length s - 1) s
+
+  abbrev last : ℕ
+  last = getD s (length s - 1) 0
+
+  whole : s ≡ front ++ last ∷ []
+  whole =
+      let k : length s - 1 + 1 ≡ length s = omega arith in
+      sym (take-all (length s - 1 + 1) s (omega arith)) ∙ one-more s (length s - 1) (omega arith)
+
+  all-counted : count ≡ length (endedLines [] s)
+  all-counted = rw (take-all i s end) at (p .lines)
+
+  pub ended-count : last ≡ lineFeed → count ≡ length (linesOf s)
+  ended-count ends =
+      let none = ap (λ (t : List ℕ). length (lastLine (openLine [] t))) whole ∙ ap (λ (t : List ℕ). length (lastLine t)) (line-feed front last ends .1) in
+      omega (arith, line-count s, all-counted)
+
+  pub open-count : (last ≡ lineFeed → ⊥) → count + 1 ≡ length (linesOf s)
+  open-count other =
+      let line = ap (openLine []) whole ∙ no-line-feed front last other .1 in
+      let some-bytes = length-append (openLine [] front) (last ∷ []) in
+      let one = ap length (ap lastLine line ∙ last-some (openLine [] front ++ last ∷ []) (omega arith)) in
+      omega (arith, line-count s, all-counted)
+
+-- ---- places filled line by line
+place-length : (l t : List ℕ) → IsPlace l t → length t ≡ 4
+place-length l t (n, (told, e)) = ap length e ∙ number-length n
+
+-- no more lines end in the first bytes than in all
+ended-few : (s : List ℕ) (i : ℕ) → length (endedLines [] (take i s)) ≤ length (endedLines [] s)
+ended-few s i =
+    let first = endedLines [] (take i s) in
+    let others = endedLines (openLine [] (take i s)) (drop i s) in
+    let all = ap length (ap (endedLines []) (sym (take-append-drop i s)) ∙ ended-append [] (take i s) (drop i s)) in
+    omega (arith, length-append first others)
+
+module _ {s before : List ℕ} {place start i : ℕ} {after : List ℕ} (p : Sofar IsPlace s before place start i after) where
+  place-count : place ≡ 4 * length (endedLines [] (take i s))
+  place-count = p .count ∙ turn-length IsPlace 4 place-length (endedLines [] (take i s)) (p .text) (p .told)
+
+  module _ (room : length (linesOf s) ≤ length before / 4) where
+    -- a line that ends has its place
+    module _ (more : i < length s) (ends : getD s i 0 ≡ lineFeed) where
+      pub end-room : place + 4 ≤ length after
+      end-room =
+          let next = line-feed (take i s) (getD s i 0) ends in
+          let one = ap length (ap (endedLines []) (one-more s i more) ∙ next .0) in
+          let count = length-append (endedLines [] (take i s)) (openLine [] (take i s) ∷ []) in
+          omega (arith, ended-few s (i + 1), line-count s, place-count, sofar-length p)
+
+      pub fill-next : (n : ℕ) (now : List ℕ) → IsNumberOfLine (take (i - start) (drop start s)) n → now ≡ withNumber after place n
+          → Sofar IsPlace s before (place + 4) (i + 1) (i + 1) now
+      fill-next n now told bytes =
+          let put = bytes ∙ number-first after place n end-room in
+          rw (number-length n) at (line-end p more (numberBytes n) now ends (n, (told, refl)) put)
+
+    module _ (end : length s ≤ i) where
+      -- the lines that are told have room
+      told-room : length (p .text) ≤ length before
+      told-room = omega (arith, ended-few s i, line-count s, place-count, p .count)
+
+      pub filled : length s ≤ start → Filled s before after
+      filled none =
+          let left = sym (all-left p end) ∙ drop-of-length-le s none in
+          let lines : linesOf s ≡ endedLines [] s = ap (λ (t : List ℕ). endedLines [] s ++ lastLine t) left ∙ append-nil (endedLines [] s) in
+          (p .text, (rw lines (all-told p end), p .output ∙ sets-start (p .text) before told-room))
+
+      -- the line that no line feed ended has the last place
+      module _ (some : start < length s) where
+        last-line : lastLine (openLine [] s) ≡ drop start s ∷ []
+        last-line = let size = length-drop start s in ap lastLine (sym (all-left p end)) ∙ last-some (drop start s) (omega arith)
+
+        last-room : place + 4 ≤ length before
+        last-room = let one = ap length last-line in omega (arith, ended-few s i, line-count s, place-count)
+
+        pub last-filled : (n : ℕ) (now : List ℕ) → IsNumberOfLine (drop start s) n → now ≡ withNumber after place n → Filled s before now
+        last-filled n now told bytes =
+            let t = numberBytes n in
+            let same = sofar-length p in
+            let first : 0 + length (p .text) ≡ place = omega (arith, p .count) in
+            let total = length-append (p .text) t in
+            let four = number-length n in
+            let put : now ≡ sets before 0 (p .text ++ t) =
+            bytes ∙ number-first after place n (omega (arith, last-room)) ∙ rw (p .output, ← first) (sets-both (p .text) t before 0) in
+            let one = turn-one IsPlace (drop start s) t (n, (told, refl)) in (
+              p .text ++ t,
+              (
+                rw last-line (turn-append IsPlace (endedLines [] s) (drop start s ∷ []) (p .text) t (all-told p end) one),
+                put ∙ sets-start (p .text ++ t) before (omega (arith, last-room, p .count)),
+              ),
+            )
+
+-- ---- what the calls answer
+module _ (s : List ℕ) (size : ℕ) where
+  pub too-long : 65536 < length s → NoPage Length ≡ linesInSize s size
+  too-long h = rw (lt-leb (length s) 65536 h)
+
+  module _ (short : length s ≤ 65536) where
+    pub too-few : size / 4 < length (linesOf s) → NoPage Length ≡ linesInSize s size
+    too-few h = rw (le-leb (length s) 65536 short, lt-leb (length (linesOf s)) (size / 4) h)
+
+    pub all-fit : length (linesOf s) ≤ size / 4 → Lines (length (linesOf s)) ≡ linesInSize s size
+    all-fit h = rw (le-leb (length s) 65536 short, le-leb (length (linesOf s)) (size / 4) h)
+
+  pub refusal-of : (r : PageAnswer) → r ≡ linesInSize s size → pageRefusalOf r ≡ pageRefusal s size
+  refusal-of r e = ap pageRefusalOf e ∙ checked-map pageRefusalOf NoPage (Lines (length (linesOf s))) (pageTests s size)
+
+no-page : {A : Type 0} (n : ℕ) (x : Refusal) → Lines n ≡ NoPage x → A
+no-page n x e = let z : _≡_ {A = ℕ} 0 1 = cc in absurd (omega arith)
+
+-- the lines are answered where all tests are passed
+lines-passed : (ts : List Test) (m n : ℕ) → Lines n ≡ checked NoPage (Lines m) ts → AllPass ts × (n ≡ m)
+lines-passed [] m n e = (tt, cc)
+lines-passed (x unless true ∷ ts) m n e = let p = lines-passed ts m n e in ((refl, p .0), p .1)
+lines-passed (x unless false ∷ ts) m n e = no-page n x e
+
+-- and refused by the first that is not
+first-refused : (ts : List Test) (m : ℕ) (x : Refusal) (before : List ℕ) (answer : Type 0) → NoPage x ≡ checked NoPage (Lines m) ts
+    → checked (λ y. (NoPage x ≡ NoPage y) × (before ≡ before)) answer ts
+first-refused [] m x before answer e = no-page m x (sym e)
+first-refused (y unless true ∷ ts) m x before answer e = first-refused ts m x before answer e
+first-refused (y unless false ∷ ts) m x before answer e = (e, refl)
+
+module _ (s before : List ℕ) where
+  abbrev size : ℕ
+  size = length before
+
+  pub has-places : (n : ℕ) → Lines n ≡ linesInSize s size → length (linesOf s) ≤ size / 4
+  has-places n e = leb-true (length (linesOf s)) (size / 4) (lines-passed (pageTests s size) (length (linesOf s)) n e .0 .1 .0)
+
+  pub page-filled : (n : ℕ) (after : List ℕ) → Lines n ≡ linesInSize s size → Filled s before after → FillsPage Lines NoPage s before after (Lines n)
+  page-filled n after e done =
+      let p = lines-passed (pageTests s size) (length (linesOf s)) n e in
+      rw (p .0 .0, p .0 .1 .0) (ap Lines (p .1), done)
+
+  pub page-unfilled : (x : Refusal) → NoPage x ≡ linesInSize s size → FillsPage Lines NoPage s before before (NoPage x)
+  page-unfilled x e =
+      first-refused (pageTests s size) (length (linesOf s)) x before ((NoPage x ≡ Lines (length (linesOf s))) × Filled s before before) e
+
+-- what is made of the answer is answered so
+pub fills-map : {R Q : Type 0} (told : ℕ → R) (refused : Refusal → R) (f : R → Q) (s before after : List ℕ) (r : R)
+    → FillsPage told refused s before after r → FillsPage (λ n. f (told n)) (λ x. f (refused x)) s before after (f r)
+fills-map told refused f s before after r h =
+    checked-on (λ x. (r ≡ refused x) × (after ≡ before)) (λ x. (f r ≡ f (refused x)) × (after ≡ before)) (pageTests s (length before))
+    (λ x k. (ap f (k .0), k .1)) (λ k. (ap f (k .0), k .1)) h
