@@ -1,20 +1,34 @@
--- What holds of a run beyond the contracts of its calls.
-use mathlib.Core.List.{List, [], _++_}
-use mathlib.Core.Logic.{_↔_}
-use mathlib.Core.Path.{_≡_, refl, sym, _∙_}
-use Prim.Native.Nat.{ℕ}
-use lib.ListN.{length, take, drop}
-use lib.Seq.{take-append-seam}
-use Rattle.answers.proofs.Lines.{lines-have, lines-known}
+-- What holds of a run and of a page beyond the contracts of their calls.
+use mathlib.Core.Bool.{true, false}
+use mathlib.Core.List.{List, [], _∷_, _++_, append-nil}
+use mathlib.Core.Logic.{_↔_, _⊎_, inl, inr, ⊎-elim}
+use mathlib.Core.Path.{_≡_, refl, sym, _∙_, ap}
+use Prim.Native.Nat.{ℕ, _*_, _/_, _<_, _≤_}
+use native.Mathlib.Decide.{decLt}
+use native.Mathlib.Omega.{arith}
+use lib.ListN.{length, take, drop, getD}
+use lib.Seq.{take-append-seam, drop-append-seam}
+use Rattle.calendar.proofs.refusal.Laws.{both-checked}
+use Rattle.dating.proofs.Claims.{one-answer, one-text, line-numbers}
+use Rattle.places.proofs.Claims.{reads-back}
+use Rattle.places.proofs.Turn.{one-turn, turn-length, turn-at}
+use Rattle.answers.proofs.Lines.{lines-have, lines-known, lines-few, parted}
+use Rattle.answers.proofs.Walk.{line-feed}
 use Rattle.answers.proofs.block.Laws.{one-written, written-text}
 use Rattle.answers.proofs.block.Laws as laws
-use Rattle.dating.proofs.Claims.{one-text}
-use Rattle.places.proofs.Turn.{one-turn}
-use Rattle.words.specs.Text.{has}
-use Rattle.dating.specs.Answer.{IsAnswer}
+use Rattle.answers.proofs.page.Laws.{place-length, too-long, too-few, all-fit, refusal-of}
+use Rattle.calendar.specs.Refusal.{refusalNumber, Test, _unless_, checked}
+use Rattle.words.specs.Text.{has, over}
+use Rattle.dating.specs.Answer.{lineFeed, IsAnswer}
+use Rattle.dating.specs.Line.{IsNumberOfLine}
+use Rattle.places.specs.Number.{numberBytes, numberOf}
 use Rattle.answers.specs.Block.{kept, AnswersBlock, AnswersLast, joined, Run}
-use Rattle.answers.specs.Lines.{endedLines, openLine, lastLine, linesOf, HasLines, Answers, IsOutput}
+use Rattle.answers.specs.Lines.{endedLines, openLine, lastLine, linesOf, AllEnded, HasLines, Answers, IsOutput}
+use Rattle.answers.specs.Page.{pageTests, IsPlace, numberAt, Filled, FillsPage, pageRefusal, pageRefusalOf}
+use Rattle.calendar.specs.declared.refusal.Refusal.{Refusal}
 use Rattle.answers.specs.declared.block.Progress.{Progress}
+use Rattle.answers.specs.declared.page.PageAnswer.the-variants.{Lines, NoPage}
+use Rattle.answers.specs.declared.page.PageAnswer.{PageAnswer}
 
 -- What has the shape of an input's lines is its lines, and nothing else is.
 pub has-lines : (s : List ℕ) (ls : List (List ℕ)) → HasLines s ls ↔ (ls ≡ linesOf s)
@@ -52,3 +66,83 @@ one-block s b m n o p q r u h k =
 -- Any two results of the last line are one: the same number, and the same bytes in the buffer.
 pub one-last : (s o p q : List ℕ) (r u : ℕ) → AnswersLast s o p r → AnswersLast s o q u → (r ≡ u) × (p ≡ q)
 one-last s o p q r u h k = one-written (Answers (lastLine s)) (one-turn IsAnswer one-text (lastLine s)) o p q r u h k
+
+-- ---- a page
+one-place : (l t u : List ℕ) → IsPlace l t → IsPlace l u → t ≡ u
+one-place l t u (n, (h, e)) (m, (k, f)) = e ∙ ap numberBytes (one-answer n m h k) ∙ sym f
+
+number-small : (l : List ℕ) (n : ℕ) → IsNumberOfLine l n → n < 4294967296
+number-small l n h = ⊎-elim (λ k. omega arith) (λ k. omega arith) (line-numbers l n h)
+
+-- Any two results of a page are one: the same answer, and the same bytes in the places.
+pub one-page : {R : Type 0} (told : ℕ → R) (refused : Refusal → R) (s before after then : List ℕ) (r q : R)
+    → FillsPage told refused s before after r → FillsPage told refused s before then q → (r ≡ q) × (after ≡ then)
+one-page told refused s before after then r q h k = both-checked (pageTests s (length before)) if-refused if-filled h k
+  where
+    if-refused : (x : Refusal) → (r ≡ refused x) × (after ≡ before) → (q ≡ refused x) × (then ≡ before) → (r ≡ q) × (after ≡ then)
+    if-refused x h k = (h .0 ∙ sym (k .0), h .1 ∙ sym (k .1))
+
+    if-filled : (r ≡ told (length (linesOf s))) × Filled s before after → (q ≡ told (length (linesOf s))) × Filled s before then
+        → (r ≡ q) × (after ≡ then)
+    if-filled (e, (t, (h, f))) (d, (u, (k, g))) =
+        let same = one-turn IsPlace one-place (linesOf s) t u h k in
+        (e ∙ sym d, f ∙ ap (λ (v : List ℕ). over v before) same ∙ sym g)
+
+-- A page equals its lines read singly, in order: a number stands in a line's place exactly when the line's own call answers it.
+pub read-singly : (s before after : List ℕ) → Filled s before after → (i : ℕ) → i < length (linesOf s) → (n : ℕ)
+    → IsNumberOfLine (getD (linesOf s) i []) n ↔ (numberAt i after ≡ n)
+read-singly s before after (t, (h, e)) i inside n =
+    let (m, (told, f)) = rw (← e) at (turn-at IsPlace 4 place-length [] (linesOf s) t (drop (length t) before) h i inside) in
+    let read = ap numberOf f ∙ reads-back m (number-small _ m told) in
+    (λ k. read ∙ one-answer m n told k, λ k. rw (sym read ∙ k) at told)
+
+-- Numbers past the last line keep their values, and so do bytes left over.
+pub later-stay : (s before after : List ℕ) → Filled s before after → drop (4 * length (linesOf s)) after ≡ drop (4 * length (linesOf s)) before
+later-stay s before after (t, (h, e)) =
+    rw (← turn-length IsPlace 4 place-length (linesOf s) t h, e) (drop-append-seam t (drop (length t) before))
+
+-- A page is refused by 2 exactly when it has more than 65,536 bytes or more lines than places, and else by no number.
+pub page-refused : (s : List ℕ) (size : ℕ)
+    → ((pageRefusal s size ≡ 2) × ((65536 < length s) ⊎ (size / 4 < length (linesOf s))))
+    ⊎ ((pageRefusal s size ≡ 0) × ((length s ≤ 65536) × (length (linesOf s) ≤ size / 4)))
+page-refused s size =
+    elim (decLt 65536 (length s)) [
+      | yes long ↦ inl (sym (refusal-of s size _ (too-long s size long)), inl long)
+      | no short ↦
+          elim (decLt (size / 4) (length (linesOf s))) [
+            | yes many ↦ inl (sym (refusal-of s size _ (too-few s size (omega arith) many)), inr many)
+            | no few ↦ inr (sym (refusal-of s size _ (all-fit s size (omega arith) (omega arith))), (omega arith, omega arith))
+          ]
+    ]
+
+-- The refusal that is told is the call's own.
+pub refusal-told : (s before after : List ℕ) (r : PageAnswer) → FillsPage Lines NoPage s before after r → pageRefusalOf r ≡ pageRefusal s (length before)
+refusal-told s before after r h = go (pageTests s (length before)) h
+  where
+    go : (ts : List Test)
+        → checked (λ x. (r ≡ NoPage x) × (after ≡ before)) ((r ≡ Lines (length (linesOf s))) × Filled s before after) ts
+        → pageRefusalOf r ≡ checked refusalNumber 0 ts
+    go [] k = ap pageRefusalOf (k .0)
+    go (x unless true ∷ ts) k = go ts k
+    go (x unless false ∷ ts) k = ap pageRefusalOf (k .0)
+
+-- A page has at most a line for each byte, so that 262,144 bytes of places serve every page.
+pub always-enough : (s : List ℕ) → length s ≤ 65536 → pageRefusal s 262144 ≡ 0
+always-enough s short = sym (refusal-of s 262144 _ (all-fit s 262144 short (omega (arith, lines-few s))))
+
+-- A page of no bytes has no lines, and a line feed at the start ends a line of no bytes.
+pub no-bytes : linesOf [] ≡ []
+unfolding endedLines openLine
+no-bytes = refl
+
+pub blank-line : (s : List ℕ) → linesOf (lineFeed ∷ s) ≡ [] ∷ linesOf s
+unfolding endedLines openLine
+blank-line s = refl
+
+-- A page that has no bytes or ends in a line feed, with another behind it, has the lines of the first and then those of the second.
+pub pages-joined : (s t : List ℕ) → AllEnded s → linesOf (s ++ t) ≡ linesOf s ++ linesOf t
+unfolding endedLines openLine
+pages-joined s t (inl e) = rw e
+pages-joined s t (inr (u, e)) =
+    let none = ap (openLine []) e ∙ line-feed u lineFeed refl .1 in
+    parted [] s t ∙ rw (none, append-nil (endedLines [] s))

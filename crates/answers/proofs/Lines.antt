@@ -41,6 +41,12 @@ open-append p (c ∷ s) t =
       | inr e ↦ rw e (open-append (p ++ c ∷ []) s t)
     ]
 
+-- the lines of some bytes and of those behind them
+pub parted : (p s t : List ℕ) → linesFrom p (s ++ t) ≡ endedLines p s ++ linesFrom (openLine p s) t
+parted p s t =
+    rw (ended-append p s t, open-append p s t)
+    (append-assoc (endedLines p s) (endedLines (openLine p s) t) (lastLine (openLine (openLine p s) t)))
+
 -- bytes without a line feed are the open line
 pub open-whole : (p s : List ℕ) → has lineFeed s ≡ false → (endedLines p s ≡ []) × (openLine p s ≡ p ++ s)
 unfolding endedLines openLine has

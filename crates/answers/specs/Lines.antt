@@ -1,6 +1,7 @@
 -- The lines of an input, and the output that answers them.
 use mathlib.Core.Bool.{false, cond}
 use mathlib.Core.List.{List, [], _∷_, _++_}
+use mathlib.Core.Logic.{_⊎_}
 use mathlib.Core.Path.{_≡_}
 use Prim.Native.Nat.{ℕ}
 use lib.Dec.{eqb}
@@ -26,6 +27,10 @@ lastLine (c ∷ s) = (c ∷ s) ∷ []
 -- "dating lines ended by a line feed (the last may lack it)": of a page, "A last line feed ends a line and opens none; a page of no bytes has no lines"
 abbrev pub linesOf : List ℕ → List (List ℕ)
 linesOf s = endedLines [] s ++ lastLine (openLine [] s)
+
+-- s "has no bytes or ends in a line feed": no line is still open
+abbrev pub AllEnded : List ℕ → Type 0
+AllEnded s = (s ≡ []) ⊎ ((u : List ℕ) × (s ≡ u ++ lineFeed ∷ []))
 
 -- ls are the lines of s by their shape: none has a line feed in it, each is ended by one, and only a last line that is not empty may lack it
 pub data HasLines : List ℕ → List (List ℕ) → Type 0 where

@@ -1,13 +1,13 @@
 -- A page of lines: the number of each line in a place of its own.
 use mathlib.Core.List.{List, [], _∷_}
 use mathlib.Core.Path.{_≡_}
-use Prim.Native.Nat.{ℕ, _/_}
+use Prim.Native.Nat.{ℕ, _*_, _/_}
 use lib.Dec.{leb}
-use lib.ListN.{length}
+use lib.ListN.{length, take, drop}
 use Rattle.calendar.specs.Refusal.{refusalNumber, Test, _unless_, checked}
 use Rattle.words.specs.Text.{over}
 use Rattle.dating.specs.Line.{IsNumberOfLine}
-use Rattle.places.specs.Number.{numberBytes}
+use Rattle.places.specs.Number.{numberBytes, numberOf}
 use Rattle.places.specs.Turn.{InTurn}
 use Rattle.answers.specs.Lines.{linesOf}
 use Rattle.calendar.specs.declared.refusal.Refusal.the-variants.{Length}
@@ -22,6 +22,10 @@ pageTests s size = Length unless leb (length s) 65536 ∷ Length unless leb (len
 -- the bytes t tell the line l: "the day, or the refusal number", "low byte first"
 abbrev pub IsPlace : (l t : List ℕ) → Type 0
 IsPlace l t = (n : ℕ) × (IsNumberOfLine l n × (t ≡ numberBytes n))
+
+-- the number in the place i of lent bytes
+abbrev pub numberAt : ℕ → List ℕ → ℕ
+numberAt i s = numberOf (take 4 (drop (4 * i) s))
 
 -- "one 32-bit number per line", "in order"; "numbers past the last line keep their values"
 abbrev pub Filled : (s before after : List ℕ) → Type 0

@@ -1,10 +1,11 @@
--- What is told one behind the other: put together, taken apart, one text alone, and its length.
+-- What is told one behind the other: put together, taken apart, one text alone, its length, and its places.
 use mathlib.Core.List.{List, [], _∷_, _++_, append-nil, append-assoc}
 use mathlib.Core.Path.{_≡_, refl, sym, _∙_, ap, ap₂}
-use Prim.Native.Nat.{ℕ, _*_}
+use Prim.Native.Nat.{ℕ, zero, suc, _+_, _*_, _<_}
 use native.Mathlib.Nat.{mul-zero, mul-suc}
 use native.Mathlib.Omega.{arith}
-use lib.ListN.{length, length-append}
+use lib.ListN.{length, take, drop, getD, length-append}
+use lib.Seq.{take-append-seam, drop-append-add}
 use Rattle.places.specs.Turn.{InTurn}
 
 module _ {A : Type 0} (tells : A → List ℕ → Type 0) where
@@ -39,3 +40,14 @@ module _ {A : Type 0} (tells : A → List ℕ → Type 0) where
       let more = turn-length n size xs u rest in
       let all = ap length e ∙ length-append a u in
       rw mul-suc (omega arith)
+
+  -- and each has its place among them, whatever stands behind
+  pub turn-at : (n : ℕ) → ((x : A) (t : List ℕ) → tells x t → length t ≡ n)
+      → (none : A) (xs : List A) (t rest : List ℕ) → InTurn tells xs t
+      → (i : ℕ) → i < length xs → tells (getD xs i none) (take n (drop (n * i) (t ++ rest)))
+  turn-at n size none [] t rest h i inside = absurd (omega arith)
+  turn-at n size none (x ∷ xs) t rest (a, (u, (told, (others, e)))) zero inside =
+      rw (mul-zero, e, append-assoc a u rest, ← size x a told, take-append-seam a (u ++ rest)) told
+  turn-at n size none (x ∷ xs) t rest (a, (u, (told, (others, e)))) (suc i) inside =
+      let k : n * suc i ≡ length a + n * i = rw mul-suc (omega (arith, size x a told)) in
+      rw (k, e, append-assoc a u rest, drop-append-add a (u ++ rest) (n * i)) (turn-at n size none xs u rest others i (omega arith))

@@ -16,7 +16,7 @@ use Rattle.words.proofs.text.Laws.{either, neither}
 use Rattle.dating.proofs.answer.Laws.{answer-length, overlong}
 use Rattle.places.proofs.Bytes.{sets-start}
 use Rattle.places.proofs.Turn.{turn-append, turn-one, turn-split}
-use Rattle.answers.proofs.Lines.{linesFrom, last-some, ended-append, open-append, open-whole, open-lacks}
+use Rattle.answers.proofs.Lines.{linesFrom, last-some, ended-append, open-append, parted, open-whole, open-lacks}
 use Rattle.answers.proofs.Walk as walk
 use Rattle.answers.proofs.Walk.{Sofar, sofar-length, all-told, all-left}
 use Rattle.words.specs.Text.{has, over}
@@ -111,12 +111,6 @@ module _ (o b : List ℕ) (lacks : has lineFeed o ≡ false) where
 
   kept-next : kept (openLine [] (kept o ++ b)) ≡ kept (openLine o b)
   kept-next = ap kept (rw (whole .1) at (open-append [] (kept o) b)) ∙ kept-open o b
-
--- the lines of a block and of those behind it
-parted : (o b rest : List ℕ) → linesFrom o (b ++ rest) ≡ endedLines o b ++ linesFrom (openLine o b) rest
-parted o b rest =
-    rw (ended-append o b rest, open-append o b rest)
-    (append-assoc (endedLines o b) (endedLines (openLine o b) rest) (lastLine (openLine (openLine o b) rest)))
 
 pub run-on : (o : List ℕ) (bs : List (List ℕ)) (t : List ℕ) → has lineFeed o ≡ false → Run (kept o) bs t → Answers (linesFrom o (joined bs)) t
 unfolding endedLines openLine

@@ -87,7 +87,7 @@ module _ {s : List ℕ} {count i : ℕ} (p : Counted s count i) (end : length s 
       omega (arith, line-count s, all-counted)
 
 -- ---- places filled line by line
-place-length : (l t : List ℕ) → IsPlace l t → length t ≡ 4
+pub place-length : (l t : List ℕ) → IsPlace l t → length t ≡ 4
 place-length l t (n, (told, e)) = ap length e ∙ number-length n
 
 -- no more lines end in the first bytes than in all
