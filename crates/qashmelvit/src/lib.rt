@@ -1,5 +1,8 @@
 // The calls from C, and nothing else. Each takes any numbers and any bytes; its contract fixes the one
 // number that it answers, and every byte of the places that it is lent.
+use answers::page::fill_page;
+use answers::page::lines_or_zero;
+use answers::page::page_refusal;
 use calendar::date::day_of_date;
 use calendar::distance::distance_of_dates;
 use calendar::distance::distance_or_zero;
@@ -16,6 +19,7 @@ use marks::transcript::find_marks;
 use marks::transcript::marks_or_zero;
 use marks::transcript::marks_refusal;
 ghost use mathlib.Core.Path.{_≡_};
+ghost use Rattle.answers.specs.Page.{FillsPage, pageRefusal};
 ghost use Rattle.calendar.specs.Date.{dayOfDate};
 ghost use Rattle.calendar.specs.Distance.{distanceOfDays, distanceRefusal, distanceOrZero};
 ghost use Rattle.calendar.specs.Span.{dayOrRefusal};
@@ -48,6 +52,22 @@ pub extern "C" fn qv_part_length(line: &[u8]) -> usize
     ensures { λ r. ⌜ IsPartLength (now (line .entry)) r ⌝ }
 {
     part_of_line(line).len()
+}
+
+// Puts the day or the refusal of each line of a page in a place of its own, and answers how many lines there are; 0 where the page is refused.
+#[no_mangle]
+pub extern "C" fn qv_page(page: &[u8], places: &mut [u8]) -> usize
+    ensures { λ r. ⌜ FillsPage (λ n. n) (λ x. 0) (now (page .entry)) (now (places .entry)) (now (places .exit)) r ⌝ }
+{
+    lines_or_zero(fill_page(page, places))
+}
+
+// Why a page is refused where places of so many bytes are lent: 2, or 0.
+#[no_mangle]
+pub extern "C" fn qv_page_refusal(page: &[u8], size: usize) -> u32
+    ensures { λ r. ⌜ r ≡ pageRefusal (now (page .entry)) size ⌝ }
+{
+    page_refusal(page, size)
 }
 
 // The day of a feast, or the refusal: 1, 4 or 6.
