@@ -1,8 +1,8 @@
 /*
  * Qashmelvit tells the day that a dating line of an old letter names, such as "tue after quasimodo 1587 G", in the Julian or in the
- * Gregorian style, and finds the dating lines that are marked in a transcript. Each call has one answer for every input, keeps nothing
- * between calls, so that threads may call at once, and changes no byte that it is lent, but for the places that qv_marks fills. The archive
- * libqashmelvit.a is for x86-64, and is linked by
+ * Gregorian style, answers a page of such lines in one call, and finds the dating lines that are marked in a transcript. Each call has one
+ * answer for every input, keeps nothing between calls, so that threads may call at once, and changes no byte that it is lent, but for the
+ * places that qv_page and qv_marks fill. The archive libqashmelvit.a is for x86-64, and is linked by
  *
  *     cc -o tag tag.c $(pkg-config --cflags --libs qashmelvit)
  *
@@ -21,6 +21,16 @@
  *         refused(answer);
  *     else
  *         found(answer, qv_part_start(line, length), qv_part_length(line, length));
+ *
+ * A call that fills places puts numbers into them, each of four bytes, low byte first. This reads number i of those from numbers on, where
+ * the first is number 0:
+ *
+ *     static uint32_t number_at(const uint8_t *numbers, size_t i)
+ *     {
+ *         const uint8_t *byte = numbers + 4 * i;
+ *         return byte[0] | (uint32_t)byte[1] << 8 | (uint32_t)byte[2] << 16 |
+ *                (uint32_t)byte[3] << 24;
+ *     }
  *
  * A dating line is lower-case ASCII but for the style letter, has one space between its parts and none at its ends, and no carriage return,
  * line feed or zero byte behind it:
@@ -54,7 +64,7 @@
  *
  * Advent is the Sunday from 27 November to 3 December.
  *
- * The last indented lines above each call are examples, expressions that hold.
+ * The last indented lines above each call are examples, expressions that hold one after the other.
  */
 #ifndef QASHMELVIT_H
 #define QASHMELVIT_H
@@ -72,7 +82,7 @@ extern "C" {
 
 /* The refusals, in the order of checking; of a transcript its length is checked first, then QV_ENCODING, then its places. */
 #define QV_NAME 1     /* no such style or feast number */
-#define QV_LENGTH 2   /* a dating line of 0 or of more than 120 bytes, a transcript of more than 65,536 bytes, or fewer places than marks */
+#define QV_LENGTH 2   /* a dating line of 0 or of more than 120 bytes, a page or transcript of more than 65,536 bytes, or too few places */
 #define QV_FORM 3     /* no dating line by the grammar */
 #define QV_YEAR 4     /* J outside 1 to 9999, G outside 1582 to 9999, or G 1582 for a feast hung on Easter */
 #define QV_DATE 5     /* no such month, or no such day in that month of that year */
@@ -114,6 +124,61 @@ size_t qv_part_start(const uint8_t *line, size_t length);
  *     qv_part_length((const uint8_t *)"29.2 1900 G", 11) == 0
  */
 size_t qv_part_length(const uint8_t *line, size_t length);
+
+/*
+ * How many lines the page has, each of which is answered in a place of its own; 0 where qv_page_refusal refuses, and then no byte is
+ * changed.
+ * A page without lines has 0 too, so that qv_page_refusal tells whether it is refused.
+ *
+ * The page is the length bytes from page on, at most 65,536. Its lines are joined by line feeds, which are no bytes of them; a last line
+ * feed ends a line and opens none, and a page of no bytes has no lines. A blank line is a line of no bytes, and a carriage return is a byte
+ * of its line.
+ *
+ * A place is 4 bytes, and the size bytes from places on are size / 4 places, the whole part. The first line fills the first place, the
+ * second the next, and so on, each with its day or refusal, as qv_line answers it for that line alone. Later places and bytes left over
+ * stay as they are. A page has at most 65,536 lines, so that 262,144 bytes of places are always enough. With number_at of this file's
+ * head:
+ *
+ *     const char *text = "easter 1225 J\n\n29.2 1900 G\n";
+ *     const uint8_t *page = (const uint8_t *)text;
+ *     size_t length = strlen(text);
+ *     static uint8_t places[65536 * 4];
+ *     size_t count = qv_page(page, length, places, sizeof places);
+ *     uint32_t refusal = qv_page_refusal(page, length, sizeof places);
+ *     if (refusal != 0)
+ *         refused(refusal);
+ *     for (size_t i = 0; i < count; i++) {
+ *         uint32_t answer = number_at(places, i);
+ *         if (answer < QV_FIRST_DAY)
+ *             line_refused(i, answer);
+ *         else
+ *             line_found(i, answer);
+ *     }
+ *
+ * All bytes of the page must be readable, and all of the places readable and writable; a length or size of 0 goes with any pointer, NULL
+ * too. The two must not overlap, and while the call runs, nothing else may use the places.
+ *
+ *     qv_page((const uint8_t *)"easter 1225 J\n\n29.2 1900 G\n", 27, places, sizeof places) == 3
+ *     number_at(places, 0) == 2168578
+ *     number_at(places, 1) == QV_LENGTH
+ *     number_at(places, 2) == QV_DATE
+ *     qv_page((const uint8_t *)"easter 1225 J\r\n\n", 16, places, 11) == 2
+ *     number_at(places, 0) == QV_FORM
+ *     qv_page((const uint8_t *)"easter 1225 J\n", 14, NULL, 0) == 0
+ *     qv_page(NULL, 0, NULL, 0) == 0
+ */
+size_t qv_page(const uint8_t *page, size_t length, uint8_t *places, size_t size);
+
+/*
+ * Why qv_page refuses a page, which is passed as to it, where it is lent size bytes of places: QV_LENGTH for more than 65,536 bytes of the
+ * page or for fewer places than lines; 0 where it does not refuse.
+ * Every size may be given.
+ *
+ *     qv_page_refusal((const uint8_t *)"easter 1225 J\n29.2 1900 G\n", 26, 8) == 0
+ *     qv_page_refusal((const uint8_t *)"easter 1225 J\n29.2 1900 G\n", 26, 7) == QV_LENGTH
+ *     qv_page_refusal(NULL, 0, 0) == 0
+ */
+uint32_t qv_page_refusal(const uint8_t *page, size_t length, size_t size);
 
 /*
  * The day of the feast with this number in the year, or the refusal: QV_NAME, QV_YEAR or QV_SPAN, in this order.
@@ -183,7 +248,7 @@ int32_t qv_distance(uint64_t style1, uint64_t year1, uint64_t month1, uint64_t d
  * it with neither pair between; a later [[ starts afresh.
  *
  * A place is 20 bytes, and the size bytes from places on are size / 20 places, the whole part. The first mark fills the first place, the
- * second the next, and so on, each with five numbers of four bytes, low byte first:
+ * second the next, and so on, each with five numbers:
  *
  *     0  where the mark's text starts, in bytes
  *     1  where it ends, in bytes
@@ -192,14 +257,8 @@ int32_t qv_distance(uint64_t style1, uint64_t year1, uint64_t month1, uint64_t d
  *     4  its day or refusal, as qv_line answers it for that text
  *
  * A character is a Unicode code point. Bytes and characters are counted from 0, and the end is just past the text. Later places and bytes
- * left over stay as they are. A transcript has at most 16,384 marks, so that 327,680 bytes of places are always enough:
- *
- *     static uint32_t number_at(const uint8_t *place, size_t i)
- *     {
- *         const uint8_t *byte = place + 4 * i;
- *         return byte[0] | (uint32_t)byte[1] << 8 | (uint32_t)byte[2] << 16 |
- *                (uint32_t)byte[3] << 24;
- *     }
+ * left over stay as they are. A transcript has at most 16,384 marks, so that 327,680 bytes of places are always enough. With number_at of
+ * this file's head:
  *
  *     static uint8_t places[16384 * 20];
  *     size_t count = qv_marks(text, length, places, sizeof places);
