@@ -10,6 +10,7 @@ mod marks;
 mod outside;
 mod pieces;
 mod sheets;
+mod stored;
 mod tables;
 mod transcripts;
 mod years;
@@ -42,10 +43,10 @@ fn main() -> ExitCode {
         ["lines"] => lines::answer(lines),
         ["run"] => lines::run(lines),
         ["corpus"] => corpus::print(),
-        ["marks"] => marks::answer(lines),
+        ["marks"] => pieces::answer(lines, marks::answered),
         ["datemarks"] => marks::run(lines),
         ["transcripts"] => transcripts::print(),
-        ["transcript", number] => marks::transcript(number, lines),
+        ["transcript", number] => pieces::write(number, lines),
         _ => {
             eprintln!("{USAGE}");
             ExitCode::from(2)

@@ -4,8 +4,8 @@
 
 use crate::days::Answer;
 use crate::lines::{day_or_refusal, printed};
-use crate::pieces::Case;
-use std::io::{BufRead, BufWriter, Read, Write};
+use crate::pieces::{Case, placed};
+use std::io::{Read, Write};
 use std::ops::Range;
 use std::process::ExitCode;
 
@@ -59,12 +59,6 @@ pub fn marks(transcript: &[u8]) -> Answer<Vec<Mark>> {
     Ok(pairs(&characters).windows(2).filter_map(between).collect())
 }
 
-/// The marks, where so many bytes have a place for each.
-fn placed(transcript: &[u8], size: usize) -> Answer<Vec<Mark>> {
-    let marks = marks(transcript)?;
-    if size / PLACE < marks.len() { Err(2) } else { Ok(marks) }
-}
-
 /// The start and end of a mark in bytes and in characters.
 fn ends(mark: &Mark) -> String {
     let Mark { bytes, characters } = mark;
@@ -72,30 +66,10 @@ fn ends(mark: &Mark) -> String {
 }
 
 /// The refusal's number or 0, the number of marks, and the five numbers of each.
-fn answered(case: &Case) -> String {
-    let transcript = case.transcript();
-    match placed(&transcript, case.size) {
-        Ok(marks) => {
-            let number = |mark: &Mark| day_or_refusal(&transcript[mark.bytes.clone()]);
-            let numbers: String = marks.iter().map(|mark| format!(" {} {}", ends(mark), number(mark))).collect();
-            format!("0 {}{numbers}", marks.len())
-        }
-        Err(refusal) => format!("{refusal} 0"),
-    }
-}
-
-fn case(line: std::io::Result<String>) -> Case {
-    Case::read(&line.expect("the cases can be read")).expect("each line is a case")
-}
-
-/// Prints for each case what the two calls on its transcript answer.
-pub fn answer(cases: impl BufRead) -> ExitCode {
-    let mut output = BufWriter::new(std::io::stdout().lock());
-    for line in cases.lines() {
-        writeln!(output, "{}", answered(&case(line))).expect("the answers can be printed");
-    }
-    output.flush().expect("the answers can be printed");
-    ExitCode::SUCCESS
+pub fn answered(case: &Case) -> String {
+    let transcript = case.text();
+    let number = |mark: &Mark| day_or_refusal(&transcript[mark.bytes.clone()]);
+    placed(marks(&transcript), case.size / PLACE, |mark| format!("{} {}", ends(mark), number(mark)))
 }
 
 /// Prints for a transcript what the program must print: a line for each mark, or the refusal's number alone.
@@ -111,19 +85,4 @@ pub fn run(mut input: impl Read) -> ExitCode {
     };
     std::io::stdout().write_all(text.as_bytes()).expect("the answers can be printed");
     ExitCode::SUCCESS
-}
-
-/// Writes the bytes of the transcript of the case with this number, from 1 on.
-pub fn transcript(number: &str, cases: impl BufRead) -> ExitCode {
-    let before = number.parse::<usize>().ok().and_then(|number| number.checked_sub(1));
-    match before.and_then(|before| cases.lines().nth(before)) {
-        Some(line) => {
-            std::io::stdout().write_all(&case(line).transcript()).expect("the transcript can be written");
-            ExitCode::SUCCESS
-        }
-        None => {
-            eprintln!("second: there is no case {number}");
-            ExitCode::FAILURE
-        }
-    }
 }

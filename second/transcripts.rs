@@ -4,11 +4,11 @@
 use crate::corpus::{GOOD, Numbers, lines, random_line};
 use crate::marks::{LONGEST, PLACE, marks};
 use crate::pieces::Case;
-use std::collections::HashSet;
+use crate::stored::{Stored, filled, lengths_about, strings};
 use std::process::ExitCode;
 
 /// Every kind of transcript, in the order of printing.
-const KINDS: [fn(&mut Transcripts); 27] = [
+const KINDS: [fn(&mut Stored); 27] = [
     examples,
     bracket_strings,
     bracket_runs,
@@ -55,7 +55,7 @@ const PROSE: [&str; 8] = [
 ];
 
 /// Texts for which no day is told, of every refusal.
-const REFUSED: [&str; 14] = [
+pub const REFUSED: [&str; 14] = [
     "",
     "octave of octave of octave of octave of octave of octave of octave of octave of octave of octave of octave of easter 12 J",
     "no such line",
@@ -78,68 +78,13 @@ const DATED: &str = "[[easter 1225 J]]";
 /// Bytes that are lent beyond those that the marks need, in turn.
 const MORE: [usize; 7] = [0, 1, 19, 20, 21, 39, 40];
 
-/// The cases in the order in which they came first.
-struct Transcripts {
-    cases: Vec<String>,
-    seen: HashSet<String>,
-    /// How often enough bytes were lent, and how often too few.
-    turns: (usize, usize),
-}
-
-/// Bytes, and how often they come.
-type Repeated<'a> = (usize, &'a [u8]);
-
 /// The bytes of a place for each mark, and none for a refused transcript.
 fn needed(transcript: &[u8]) -> usize {
     PLACE * marks(transcript).map_or(0, |marks| marks.len())
 }
 
-/// The case of these pieces, without those that have no bytes.
-fn case(size: usize, pieces: &[Repeated]) -> Case {
-    let pieces = pieces.iter().filter(|(count, bytes)| *count > 0 && !bytes.is_empty());
-    Case { size, pieces: pieces.map(|(count, bytes)| (*count, bytes.to_vec())).collect() }
-}
-
-impl Transcripts {
-    fn add_pieces(&mut self, size: usize, pieces: &[Repeated]) {
-        let text = case(size, pieces).to_string();
-        if self.seen.insert(text.clone()) {
-            self.cases.push(text);
-        }
-    }
-
-    fn add(&mut self, size: usize, transcript: impl AsRef<[u8]>) {
-        self.add_pieces(size, &[(1, transcript.as_ref())]);
-    }
-
-    /// The transcript with as many places as it needs, or more.
-    fn enough_pieces(&mut self, pieces: &[Repeated]) {
-        let more = MORE[self.turns.0 % MORE.len()];
-        self.turns.0 += 1;
-        self.add_pieces(needed(&case(0, pieces).transcript()) + more, pieces);
-    }
-
-    /// The transcript, where it has marks, with fewer places than it needs: a byte less, a place less, or none.
-    fn few_pieces(&mut self, pieces: &[Repeated]) {
-        let needed = needed(&case(0, pieces).transcript());
-        if needed > 0 {
-            let size = [needed - 1, needed - PLACE, 0][self.turns.1 % 3];
-            self.turns.1 += 1;
-            self.add_pieces(size, pieces);
-        }
-    }
-
-    fn enough(&mut self, transcript: impl AsRef<[u8]>) {
-        self.enough_pieces(&[(1, transcript.as_ref())]);
-    }
-
-    fn few(&mut self, transcript: impl AsRef<[u8]>) {
-        self.few_pieces(&[(1, transcript.as_ref())]);
-    }
-}
-
 /// Pairs that open, close, overlap or start afresh, with no place and with one or two.
-fn examples(transcripts: &mut Transcripts) {
+fn examples(transcripts: &mut Stored) {
     let list = "[[[x]],[[a [[b]],[[]],]],[[,[[x,x]],[[x]],[x],[[x],[x]],[[x]]],[[x]]]],[[x]] ]],[[[[x]]]],[[a]b]],\
         [[a[b]],[[a[b]c]],[[a]][[b]],[[a]] [[b]],]][[a]][[,[[a]]]][[[[b]]";
     for transcript in list.split(',').chain(["", "x", DATED]) {
@@ -147,17 +92,8 @@ fn examples(transcripts: &mut Transcripts) {
     }
 }
 
-/// Every string of so many characters of a list.
-fn strings(list: &[&str], length: usize) -> Vec<String> {
-    let mut strings = vec![String::new()];
-    for _ in 0..length {
-        strings = strings.iter().flat_map(|begun| list.iter().map(move |next| format!("{begun}{next}"))).collect();
-    }
-    strings
-}
-
 /// Every string of up to six brackets and letters, and of up to eight brackets; those with marks also with letters of two bytes.
-fn bracket_strings(transcripts: &mut Transcripts) {
+fn bracket_strings(transcripts: &mut Stored) {
     let lettered = (0..=6).flat_map(|length| strings(&["[", "]", "x"], length));
     for string in lettered.chain((7..=8).flat_map(|length| strings(&["[", "]"], length))) {
         transcripts.enough(&string);
@@ -169,7 +105,7 @@ fn bracket_strings(transcripts: &mut Transcripts) {
 }
 
 /// Runs of up to nine brackets before a letter, and of up to nine behind it; and longer ones with no letter between.
-fn bracket_runs(transcripts: &mut Transcripts) {
+fn bracket_runs(transcripts: &mut Stored) {
     for opening in 0..=9 {
         for closing in 0..=9 {
             transcripts.enough(format!("\u{e9}{}\u{e9}{}", "[".repeat(opening), "]".repeat(closing)));
@@ -183,7 +119,7 @@ fn bracket_runs(transcripts: &mut Transcripts) {
 }
 
 /// Each character alone, and before, in and behind marks and pairs.
-fn characters(transcripts: &mut Transcripts) {
+fn characters(transcripts: &mut Stored) {
     for c in CHARACTERS.chars() {
         transcripts.enough(format!("{c}"));
         transcripts.enough(format!("{c}{DATED}"));
@@ -200,7 +136,7 @@ fn characters(transcripts: &mut Transcripts) {
 }
 
 /// Two characters at bounds of their lengths, before a mark and in it.
-fn two_characters(transcripts: &mut Transcripts) {
+fn two_characters(transcripts: &mut Stored) {
     let bounds = ['\u{7f}', '\u{80}', '\u{7ff}', '\u{800}', '\u{ffff}', '\u{10000}', '\u{10ffff}'];
     for c in bounds {
         bounds.iter().for_each(|d| transcripts.enough(format!("{c}{d}[[{d}{c}]]{d}{DATED}")));
@@ -208,7 +144,7 @@ fn two_characters(transcripts: &mut Transcripts) {
 }
 
 /// The first and last characters of each first byte of a longer character.
-fn bounds_of_first_bytes(transcripts: &mut Transcripts) {
+fn bounds_of_first_bytes(transcripts: &mut Stored) {
     for first in 0xc2..=0xf4 {
         let (low, high): (&[u8], &[u8]) = match first {
             ..0xe0 => (&[0x80], &[0xbf]),
@@ -224,7 +160,7 @@ fn bounds_of_first_bytes(transcripts: &mut Transcripts) {
 }
 
 /// Brackets of other kinds beside those that mark.
-fn brackets_among_characters(transcripts: &mut Transcripts) {
+fn brackets_among_characters(transcripts: &mut Stored) {
     let ascii = "() {} Z\\ \\^ [\u{ff3d} \u{ff3b}]";
     let others = "\u{27e6}\u{27e7} \u{ff3b}\u{ff3d} \u{15b}\u{15d} \u{5b5b}\u{5d5d} \u{1055b}\u{1055d}";
     for pair in ascii.split(' ').chain(others.split(' ')) {
@@ -236,7 +172,7 @@ fn brackets_among_characters(transcripts: &mut Transcripts) {
 }
 
 /// Good and refused texts as marks behind every kind of prose.
-fn lines_in_prose(transcripts: &mut Transcripts) {
+fn lines_in_prose(transcripts: &mut Stored) {
     for text in GOOD.iter().chain(&REFUSED) {
         for prose in PROSE {
             transcripts.enough(format!("{prose}[[{text}]]."));
@@ -245,7 +181,7 @@ fn lines_in_prose(transcripts: &mut Transcripts) {
 }
 
 /// Texts of marks about the longest dating line, in characters of one to four bytes.
-fn lengths_of_marks(transcripts: &mut Transcripts) {
+fn lengths_of_marks(transcripts: &mut Stored) {
     for character in ["e", " ", "[x", "]x", "\u{e9}", "\u{20ac}", "\u{1f4dc}"] {
         for count in [1, 2, 29, 30, 31, 39, 40, 41, 59, 60, 61, 118, 119, 120, 121, 122, 240] {
             transcripts.enough_pieces(&[(1, b"[["), (count, character.as_bytes()), (1, b"]]")]);
@@ -258,7 +194,7 @@ fn lengths_of_marks(transcripts: &mut Transcripts) {
 }
 
 /// Ends of lines about marks, in them and in pairs.
-fn line_ends(transcripts: &mut Transcripts) {
+fn line_ends(transcripts: &mut Stored) {
     for end in ["\n", "\r\n", "\r", "\0", "\u{85}", "\u{2028}", "\n\n"] {
         transcripts.enough(end);
         transcripts.enough(format!("{end}{DATED}{end}[[1.1 1 J]]{end}"));
@@ -277,7 +213,7 @@ fn marked(count: usize) -> String {
 }
 
 /// One to forty marks, with enough places and with too few.
-fn many_marks(transcripts: &mut Transcripts) {
+fn many_marks(transcripts: &mut Stored) {
     for count in 1..=40 {
         transcripts.enough(marked(count));
         transcripts.few(marked(count));
@@ -285,7 +221,7 @@ fn many_marks(transcripts: &mut Transcripts) {
 }
 
 /// Some of the stored dating lines, twelve to a transcript.
-fn stored_lines(transcripts: &mut Transcripts) {
+fn stored_lines(transcripts: &mut Stored) {
     let lines: Vec<String> = lines().into_iter().filter_map(|line| String::from_utf8(line).ok()).collect();
     for twelve in lines.iter().step_by(19).collect::<Vec<_>>().chunks(12) {
         transcripts.enough(twelve.iter().map(|line| format!("\u{2192}[[{line}]]\n")).collect::<String>());
@@ -293,7 +229,7 @@ fn stored_lines(transcripts: &mut Transcripts) {
 }
 
 /// No mark to seven with every number of bytes about places, and with far more than are filled.
-fn sizes(transcripts: &mut Transcripts) {
+fn sizes(transcripts: &mut Stored) {
     for count in [0, 1, 2, 3, 7] {
         for places in [0, 1, 2, 3, 7] {
             for size in [PLACE * places + 19, PLACE * places, PLACE * places + 1, PLACE * places + 18] {
@@ -317,12 +253,12 @@ fn bad() -> Vec<Vec<u8>> {
     let above = "f4908080 f4bfbfbf f5808080 f7bfbfbf f888808080 fbbfbfbfbf fc8480808080 fdbfbfbfbfbf fefeffff";
     let longer = "c28080 e1808080 f180808080 418080 c3a9a9 e282acac f09f939c9c";
     let lists = [cut, cut_by_ascii, overlong, surrogates, above, longer];
-    let bytes = |digits: &str| Case::read(&format!("0: {digits}")).expect("a list of bytes").transcript();
+    let bytes = |digits: &str| Case::read(&format!("0: {digits}")).expect("a list of bytes").text();
     single.chain(lists.into_iter().flat_map(|list| list.split(' ')).map(bytes)).collect()
 }
 
 /// Each of them at the start, in the middle, right before a pair, in a mark and at the very end.
-fn bad_sequences(transcripts: &mut Transcripts) {
+fn bad_sequences(transcripts: &mut Stored) {
     for bad in bad() {
         transcripts.enough([&bad, b"a[[1.1 1 J]]".as_slice()].concat());
         transcripts.enough([b"\xc3\xa9", &bad[..], b"a[[1.1 1 J]]"].concat());
@@ -333,7 +269,7 @@ fn bad_sequences(transcripts: &mut Transcripts) {
 }
 
 /// Some of them with no place, one and two for two marks.
-fn bad_sequences_and_few_places(transcripts: &mut Transcripts) {
+fn bad_sequences_and_few_places(transcripts: &mut Stored) {
     for bad in bad().iter().step_by(20) {
         for size in [0, 19, 20, 39, 40] {
             transcripts.add(size, [b"[[a]][[b]]", &bad[..]].concat());
@@ -355,14 +291,14 @@ fn begun_by(first: u8, second: u8, last: u8) -> Vec<u8> {
 }
 
 /// Every second byte behind first bytes of characters of two, three and four bytes.
-fn second_bytes(transcripts: &mut Transcripts) {
+fn second_bytes(transcripts: &mut Stored) {
     for first in [0xc2, 0xe0, 0xf4] {
         (0..=255).for_each(|second| transcripts.enough(begun_by(first, second, 0x80)));
     }
 }
 
 /// First bytes at the bounds of their kinds with second bytes at theirs.
-fn first_bytes(transcripts: &mut Transcripts) {
+fn first_bytes(transcripts: &mut Stored) {
     for first in
         [0x7f, 0xc0, 0xc1, 0xc3, 0xdf, 0xe1, 0xec, 0xed, 0xee, 0xef, 0xf0, 0xf1, 0xf3, 0xf5, 0xf7, 0xf8, 0xfc, 0xff]
     {
@@ -373,7 +309,7 @@ fn first_bytes(transcripts: &mut Transcripts) {
 }
 
 /// Third and fourth bytes at their bounds, and brackets in their place.
-fn last_bytes(transcripts: &mut Transcripts) {
+fn last_bytes(transcripts: &mut Stored) {
     for byte in [0, b'[', b']', 0x7f, 0x80, 0xbf, 0xc0, 0xff] {
         for two in [b"\xe0\xa0", b"\xe1\x80", b"\xed\x9f", b"\xef\xbf", b"\xf0\x90", b"\xf1\x80", b"\xf4\x8f"] {
             let four = two[0] >= 0xf0;
@@ -385,22 +321,12 @@ fn last_bytes(transcripts: &mut Transcripts) {
     }
 }
 
-/// A byte less than the most, the most, and a byte more.
-fn lengths() -> [usize; 3] {
-    [LONGEST - 1, LONGEST, LONGEST + 1]
-}
-
-/// So many bytes: letters, and behind them the text as often as it goes.
-fn filled(length: usize, text: &str) -> [Repeated<'_>; 2] {
-    [(length % text.len(), b"a"), (length / text.len(), text.as_bytes())]
-}
-
 /// Prose with marks, brackets and characters of one to four bytes over and over, with letters before or behind what goes in.
-fn lengths_about_the_longest(transcripts: &mut Transcripts) {
+fn lengths_about_the_longest(transcripts: &mut Stored) {
     let prose = format!("{}{DATED}. ", PROSE[1]);
     let list = "a,[,],[[,]],[[]],[[x]],]][[,[],\u{e9},\u{20ac},\u{1f4dc},\u{e9}[[\u{20ac}]]\u{1f4dc}";
     for text in list.split(',').chain([prose.as_str()]) {
-        for length in lengths() {
+        for length in lengths_about(LONGEST) {
             let [rest, repeated] = filled(length, text);
             transcripts.enough_pieces(&[rest, repeated]);
             transcripts.few_pieces(&[rest, repeated]);
@@ -410,7 +336,7 @@ fn lengths_about_the_longest(transcripts: &mut Transcripts) {
 }
 
 /// As many marks as a transcript can have, with places for all, or for all but one, or with more.
-fn full_of_marks(transcripts: &mut Transcripts) {
+fn full_of_marks(transcripts: &mut Stored) {
     let count = LONGEST / 4;
     let all = PLACE * count;
     for size in [0, all - PLACE, all - 1, all, all + 1, all + 19, 400_000] {
@@ -419,9 +345,9 @@ fn full_of_marks(transcripts: &mut Transcripts) {
 }
 
 /// One mark that fills the transcript, of several characters.
-fn one_long_mark(transcripts: &mut Transcripts) {
+fn one_long_mark(transcripts: &mut Stored) {
     for text in ["a", "[a", "]a", "\u{e9}", "\u{20ac}", "\u{1f4dc}"] {
-        for length in lengths() {
+        for length in lengths_about(LONGEST) {
             let [rest, repeated] = filled(length - 4, text);
             transcripts.enough_pieces(&[(1, b"[["), rest, repeated, (1, b"]]")]);
             transcripts.few_pieces(&[(1, b"[["), repeated, rest, (1, b"]]")]);
@@ -430,9 +356,9 @@ fn one_long_mark(transcripts: &mut Transcripts) {
 }
 
 /// A mark at the very end and at the very start, and pairs there that mark nothing.
-fn marks_at_the_ends(transcripts: &mut Transcripts) {
+fn marks_at_the_ends(transcripts: &mut Stored) {
     for text in ["a", "[[", "\u{e9}", "\u{20ac}", "\u{1f4dc}"] {
-        for length in lengths() {
+        for length in lengths_about(LONGEST) {
             for end in [DATED, "[[", "]]", "]"] {
                 let [rest, repeated] = filled(length - end.len(), text);
                 transcripts.enough_pieces(&[rest, repeated, (1, end.as_bytes())]);
@@ -443,9 +369,9 @@ fn marks_at_the_ends(transcripts: &mut Transcripts) {
 }
 
 /// Bad bytes at the very end and at the very start of long transcripts.
-fn bad_ends(transcripts: &mut Transcripts) {
+fn bad_ends(transcripts: &mut Stored) {
     for text in ["a", "\u{e9}", "[[x]]"] {
-        for length in lengths() {
+        for length in lengths_about(LONGEST) {
             for bad in [b"\xff".as_slice(), b"\x80", b"\xc3", b"\xe2\x82", b"\xf0\x9f\x93", b"\xed\xa0\x80"] {
                 let [rest, repeated] = filled(length - bad.len(), text);
                 transcripts.enough_pieces(&[rest, repeated, (1, bad)]);
@@ -456,7 +382,7 @@ fn bad_ends(transcripts: &mut Transcripts) {
 }
 
 /// Transcripts that would be taken if their length were cut to sixteen bits.
-fn far_too_long(transcripts: &mut Transcripts) {
+fn far_too_long(transcripts: &mut Stored) {
     for more in [LONGEST, 2 * LONGEST] {
         for text in ["a", "]]", DATED] {
             for size in [0, PLACE, 3 * PLACE] {
@@ -468,7 +394,7 @@ fn far_too_long(transcripts: &mut Transcripts) {
 }
 
 /// Brackets and characters of every length by chance.
-fn random_brackets(transcripts: &mut Transcripts) {
+fn random_brackets(transcripts: &mut Stored) {
     let mut numbers = Numbers(1583);
     let list = ["[", "]", "[[", "]]", "[[", "]]", "x", " ", "\u{e9}", "\u{20ac}", "\u{1f4dc}"];
     for _ in 0..300 {
@@ -496,7 +422,7 @@ fn random_text(numbers: &mut Numbers, most: usize) -> String {
 }
 
 /// Texts by chance, one in five also with too few places, and one in five with a byte changed, put in or left out.
-fn random_texts(transcripts: &mut Transcripts) {
+fn random_texts(transcripts: &mut Stored) {
     let mut numbers = Numbers(1584);
     for _ in 0..500 {
         let mut text = random_text(&mut numbers, 10).into_bytes();
@@ -516,7 +442,7 @@ fn random_texts(transcripts: &mut Transcripts) {
 }
 
 /// Long texts by chance.
-fn random_long_texts(transcripts: &mut Transcripts) {
+fn random_long_texts(transcripts: &mut Stored) {
     let mut numbers = Numbers(1585);
     for _ in 0..12 {
         transcripts.enough(random_text(&mut numbers, 200));
@@ -525,8 +451,5 @@ fn random_long_texts(transcripts: &mut Transcripts) {
 
 /// Prints the cases of all kinds, each in a line.
 pub fn print() -> ExitCode {
-    let mut transcripts = Transcripts { cases: vec![], seen: HashSet::new(), turns: (0, 0) };
-    KINDS.iter().for_each(|kind| kind(&mut transcripts));
-    transcripts.cases.iter().for_each(|case| println!("{case}"));
-    ExitCode::SUCCESS
+    Stored::new(needed, PLACE, &MORE).print(&KINDS)
 }
