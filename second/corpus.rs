@@ -532,7 +532,7 @@ pub fn random_line(numbers: &mut Numbers) -> String {
 }
 
 /// The line with one byte changed, put in or left out, or two neighbours exchanged.
-fn random_edit(mut line: Line, numbers: &mut Numbers) -> Line {
+pub fn random_edit(mut line: Line, numbers: &mut Numbers) -> Line {
     let place = numbers.below(line.len() - 1);
     let byte = match numbers.below(2) {
         0 => numbers.one_of(b" .0123456789abcdefghijklmnopqrstuvwxyzGJ"),

@@ -8,6 +8,8 @@ mod feasts;
 mod lines;
 mod marks;
 mod outside;
+mod page_cases;
+mod pages;
 mod pieces;
 mod sheets;
 mod stored;
@@ -29,7 +31,9 @@ usage: second cases < LINES             compares lines 'CALL NUMBERS: ANSWER' wi
        second marks < CASES             prints 'REFUSAL COUNT' and for each mark ' START END FIRST PAST NUMBER'
        second datemarks < TRANSCRIPT    prints for a transcript what the program datemarks must print
        second transcripts               prints cases 'SIZE: PIECE PIECE ..' of transcripts, good and bad
-       second transcript N < CASES      writes the bytes of the Nth case's transcript";
+       second transcript N < CASES      writes the bytes of the Nth case's transcript
+       second pages < CASES             prints 'REFUSAL COUNT' and for each line ' NUMBER'
+       second page_cases                prints cases 'SIZE: PIECE PIECE ..' of pages of lines, good and bad";
 
 fn main() -> ExitCode {
     let words: Vec<String> = std::env::args().skip(1).collect();
@@ -47,6 +51,8 @@ fn main() -> ExitCode {
         ["datemarks"] => marks::run(lines),
         ["transcripts"] => transcripts::print(),
         ["transcript", number] => pieces::write(number, lines),
+        ["pages"] => pieces::answer(lines, pages::answered),
+        ["page_cases"] => page_cases::print(),
         _ => {
             eprintln!("{USAGE}");
             ExitCode::from(2)
