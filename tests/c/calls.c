@@ -1,15 +1,12 @@
 /* Calls every function of qashmelvit.h, tells each call that answers wrongly, and ends with status 1 where there is one. */
-#define _DEFAULT_SOURCE /* for MAP_ANONYMOUS and sigsetjmp */
 #include "qashmelvit.h"
 
+#include "lent.h"
+
 #include <inttypes.h>
-#include <setjmp.h>
-#include <signal.h>
 #include <stdarg.h>
 #include <stdio.h>
-#include <stdlib.h>
 #include <string.h>
-#include <sys/mman.h>
 
 #define COUNT(table) (sizeof(table) / sizeof(table)[0])
 
@@ -22,6 +19,8 @@ enum {
     LONGEST_TRIED = 200,
     LONGEST_TRANSCRIPT = 65536,
     PLACE = 20,          /* the bytes of a mark's five numbers */
+    LONGEST_PAGE = 65536,
+    NUMBER = 4,          /* the bytes of a line's number */
     FAILURES_SHOWN = 20
 };
 
@@ -66,36 +65,13 @@ static void check_line(int64_t wanted, int64_t got, const char *what, const char
         check(wanted, got, "%s(\"%s\", %zu)", what, shown(line, length), length);
 }
 
-/* Lending lines. A block lies between two that may be neither read nor written, so that a call that leaves its line is stopped. */
+/* Lending lines. */
 
-enum { BLOCK = 65536, GUARD = 64, GUARD_BYTE = 0xa5 };
+enum { GUARD_BYTE = 0xa5 };
 
-static unsigned char *block;
-static unsigned char guard[GUARD];
+static struct block block;
 static const char *lent_line = "";
 static size_t lent_length;
-
-static sigjmp_buf before_calls;
-
-/* Nothing is told from here, since an emulator may start a handler on a stack that printing cannot use. */
-static void leave_calls(int signal_number)
-{
-    siglongjmp(before_calls, signal_number);
-}
-
-static void make_block(void)
-{
-    unsigned char *blocks = mmap(NULL, 3 * BLOCK, PROT_NONE, MAP_PRIVATE | MAP_ANONYMOUS, -1, 0);
-    if (blocks == MAP_FAILED || mprotect(blocks + BLOCK, BLOCK, PROT_READ | PROT_WRITE) != 0) {
-        perror("calls: no memory between closed pages");
-        exit(1);
-    }
-    block = blocks + BLOCK;
-    memset(block, GUARD_BYTE, BLOCK);
-    memset(guard, GUARD_BYTE, GUARD);
-    signal(SIGSEGV, leave_calls);
-    signal(SIGBUS, leave_calls);
-}
 
 struct reading {
     uint32_t answer;
@@ -103,29 +79,28 @@ struct reading {
     size_t length;
 };
 
-/* What the three calls answer for the line at this place of the block; the line's bytes and the guard's beside it must stay. */
-static struct reading reading_at(unsigned char *place, const unsigned char *beside, const char *line, size_t length)
+/* What the three calls answer for the line at the block's end or start; the line's bytes and the guard's beside it must stay. */
+static struct reading reading_at(int at_end, const char *line, size_t length)
 {
+    struct lent lent = lend(block, length, at_end, GUARD_BYTE);
     struct reading r;
-    memcpy(place, line, length);
-    r.answer = qv_line(place, length);
-    r.start = qv_part_start(place, length);
-    r.length = qv_part_length(place, length);
-    check_line(0, memcmp(place, line, length) != 0, "changes its line: ", line, length);
-    memset(place, GUARD_BYTE, length);
-    check_line(0, memcmp(beside, guard, GUARD) != 0, "changes bytes beside its line: ", line, length);
+    memcpy(lent.bytes, line, length);
+    r.answer = qv_line(lent.bytes, length);
+    r.start = qv_part_start(lent.bytes, length);
+    r.length = qv_part_length(lent.bytes, length);
+    check_line(0, memcmp(lent.bytes, line, length) != 0, "changes its line: ", line, length);
+    check_line(1, all_are(lent.beside, GUARD, GUARD_BYTE), "keeps the bytes beside its line: ", line, length);
     return r;
 }
 
 /* The line is read once with the closed page behind its last byte and once with it before its first. */
 static struct reading reading(const char *line, size_t length)
 {
-    unsigned char *late = block + BLOCK - length;
     struct reading r, again;
     lent_line = line;
     lent_length = length;
-    r = reading_at(late, late - GUARD, line, length);
-    again = reading_at(block, block + length, line, length);
+    r = reading_at(1, line, length);
+    again = reading_at(0, line, length);
     check_line(r.answer, again.answer, "qv_line, again", line, length);
     check_line((int64_t)r.start, (int64_t)again.start, "qv_part_start, again", line, length);
     check_line((int64_t)r.length, (int64_t)again.length, "qv_part_length, again", line, length);
@@ -604,6 +579,10 @@ static void check_null(void)
     check(0, (int64_t)qv_part_length(NULL, 0), "qv_part_length(NULL, 0)");
     check(0, qv_marks_refusal(NULL, 0, 0), "qv_marks_refusal(NULL, 0, 0)");
     check(0, (int64_t)qv_marks(NULL, 0, NULL, 0), "qv_marks(NULL, 0, NULL, 0)");
+    check(0, qv_page_refusal(NULL, 0, 0), "qv_page_refusal(NULL, 0, 0)");
+    check(0, (int64_t)qv_page(NULL, 0, NULL, 0), "qv_page(NULL, 0, NULL, 0)");
+    check(QV_LENGTH, qv_page_refusal((const uint8_t *)"\n", 1, 0), "qv_page_refusal(\"\\n\", 1, 0)");
+    check(0, (int64_t)qv_page((const uint8_t *)"\n", 1, NULL, 0), "qv_page(\"\\n\", 1, NULL, 0)");
 }
 
 /* A line of one byte over and over has no form, and one of no bytes or too many is refused before that. */
@@ -775,7 +754,166 @@ static void check_longest_transcript(void)
     memset(place, GUARD_BYTE, PLACE);
     check(QV_LENGTH, qv_marks_refusal(text, LONGEST_TRANSCRIPT + 1, PLACE), "qv_marks_refusal(.., 65537, 20)");
     check(0, (int64_t)qv_marks(text, LONGEST_TRANSCRIPT + 1, place, PLACE), "qv_marks(.., 65537, .., 20)");
-    check(0, memcmp(place, guard, PLACE) != 0, "changes its place: qv_marks(.., 65537, .., 20)");
+    check(1, all_are(place, PLACE, GUARD_BYTE), "keeps its place: qv_marks(.., 65537, .., 20)");
+}
+
+/* Pages. */
+
+static struct block pages, places;
+
+/* How many lines the page has, of which the last need not be ended. */
+static size_t lines_in(const char *page, size_t length)
+{
+    size_t count = length > 0 && page[length - 1] != '\n', i;
+    for (i = 0; i < length; i++)
+        count += page[i] == '\n';
+    return count;
+}
+
+static void check_page(int64_t wanted, int64_t got, const char *what, const char *page, size_t length, size_t size)
+{
+    if (wanted == got)
+        checks++;
+    else
+        check(wanted, got, "%s(\"%s\", %zu, %zu)", what, shown(page, length), length, size);
+}
+
+/* The places hold what qv_line answers for each line alone, low byte first. */
+static void check_numbers(const uint8_t *place, const char *page, size_t length, size_t size)
+{
+    const char *end = page + length, *line, *feed;
+    for (line = page; line < end; line = feed + 1, place += NUMBER) {
+        uint32_t got = place[0] | (uint32_t)place[1] << 8 | (uint32_t)place[2] << 16 | (uint32_t)place[3] << 24;
+        feed = memchr(line, '\n', (size_t)(end - line));
+        if (feed == NULL)
+            feed = end;
+        check_page(qv_line((const uint8_t *)line, (size_t)(feed - line)), got, "a line of qv_page", page, length, size);
+    }
+}
+
+/* The page and its places are lent at the blocks' ends or starts; a call changes its lines' places alone, and a refused one nothing. */
+static void expect_page_at(int at_end, int byte, const char *page, size_t length, size_t size)
+{
+    struct lent text = lend(pages, length, at_end, byte), lent = lend(places, size, at_end, byte);
+    size_t wanted = lines_in(page, length), count, filled;
+    uint32_t refusal = length > LONGEST_PAGE || wanted > size / NUMBER ? QV_LENGTH : 0;
+    if (refusal != 0)
+        wanted = 0;
+    memcpy(text.bytes, page, length);
+    check_page(refusal, qv_page_refusal(text.bytes, length, size), "qv_page_refusal", page, length, size);
+    count = qv_page(text.bytes, length, lent.bytes, size);
+    check_page((int64_t)wanted, (int64_t)count, "qv_page", page, length, size);
+    if (count == wanted && count > 0)
+        check_numbers(lent.bytes, page, length, size);
+    filled = NUMBER * wanted;
+    check_page(1, all_are(lent.bytes + filled, size - filled, byte), "keeps the bytes behind its lines' places: ", page, length, size);
+    check_page(0, memcmp(text.bytes, page, length) != 0, "changes its page: ", page, length, size);
+    check_page(1, all_are(text.beside, GUARD, byte), "keeps the bytes beside its page: ", page, length, size);
+    check_page(1, all_are(lent.beside, GUARD, byte), "keeps the bytes beside its places: ", page, length, size);
+}
+
+static void expect_page(const char *page, size_t length, size_t size)
+{
+    lent_line = page;
+    lent_length = length;
+    expect_page_at(1, 0, page, length, size);
+    expect_page_at(0, GUARD_BYTE, page, length, size);
+}
+
+/* The page with as many bytes of places as its lines need, and with so many less and more. */
+static void expect_page_about(const char *page, size_t length, size_t about)
+{
+    size_t needed = NUMBER * lines_in(page, length), size;
+    for (size = needed < about ? 0 : needed - about; size <= needed + about; size++)
+        expect_page(page, length, size);
+}
+
+static const char page_of_all[] =
+    "\neaster 1225 J\n29.2 1900 G\neaster 1582 G\n\neve of 1.1 1 J\nno such line\neaster 1225 J\r\n31.12 9999 G\r\n\xff\n\x8a\nx\n"
+    "tue after quasimodo 1587 J\neaster 1225 J\0\n\n\n1.1 1 J\n15.10 1582 G\n14.10 1582 G\neaster 1225 J \nadvent 1582 G\nJ\n";
+
+/* A page with every refusal, cut at every byte, with few places and with enough. */
+static void check_cut_pages(void)
+{
+    size_t length, size;
+    for (length = 0; length < sizeof page_of_all; length++) {
+        expect_page_about(page_of_all, length, NUMBER + 1);
+        for (size = 0; size < NUMBER; size++)
+            expect_page(page_of_all, length, size);
+    }
+}
+
+/* Every number of bytes of places up to far more than the lines need. */
+static void check_page_sizes(void)
+{
+    size_t size;
+    for (size = 0; size <= 2 * NUMBER * lines_in(page_of_all, sizeof page_of_all - 1); size++)
+        expect_page(page_of_all, sizeof page_of_all - 1, size);
+    for (size = 0; size <= 4 * NUMBER; size++) {
+        expect_page("", 0, size);
+        expect_page("\n", 1, size);
+        expect_page("easter 1225 J", 13, size);
+        expect_page("easter 1225 J\n29.2 1900 J\n", 26, size);
+    }
+}
+
+/* A page of one byte over and over is one line, or as many as its line feeds. */
+static void check_pages_of_one_byte(void)
+{
+    char page[LONGEST_TRIED];
+    int byte;
+    size_t length;
+    for (byte = 0; byte < 256; byte++) {
+        memset(page, byte, sizeof page);
+        for (length = 0; length <= LONGEST_TRIED; length++)
+            expect_page_about(page, length, 1);
+    }
+}
+
+/* Every byte at every place of a page, in the place of the one there. */
+static void check_changed_pages(void)
+{
+    static const char good[] = "1.1 1 J\n\n29.2 1900 G";
+    char page[sizeof good];
+    size_t i;
+    for (i = 0; i < 256 * (sizeof good - 1); i++) {
+        memcpy(page, good, sizeof good);
+        page[i / 256] = (char)(i % 256);
+        expect_page_about(page, sizeof good - 1, 1);
+    }
+}
+
+/* Pages about the longest, of one byte over and over and of good lines, with a good line at the end. */
+static void check_longest_pages(void)
+{
+    static const char *const fillings[] = {"a", "\n", "a\n", "1.1 1 J\n", "\r\n"};
+    static char page[LONGEST_PAGE + 1];
+    size_t filling, length, i;
+    for (filling = 0; filling < COUNT(fillings); filling++)
+        for (length = LONGEST_PAGE - 1; length <= LONGEST_PAGE + 1; length++) {
+            for (i = 0; i < length; i++)
+                page[i] = fillings[filling][i % strlen(fillings[filling])];
+            expect_page_about(page, length, 1);
+            memcpy(page + length - 8, "\n1.1 1 J", 8);
+            expect_page_about(page, length, 1);
+            expect_page(page, length, 0);
+            expect_page(page, length, NUMBER * LONGEST_PAGE);
+        }
+}
+
+/* Every size may be given to the call that tells the refusal, which is lent no places. */
+static void check_page_refusals(void)
+{
+    static const size_t counts[] = {0, 1, 2, 3, 4, 7, 8, 12, LONGEST_PAGE - 1, LONGEST_PAGE, LONGEST_PAGE + 1};
+    static uint8_t page[LONGEST_PAGE + 1];
+    size_t i, j;
+    memset(page, '\n', sizeof page);
+    for (i = 0; i < COUNT(numbers); i++)
+        for (j = 0; j < COUNT(counts); j++) {
+            size_t size = (size_t)numbers[i], count = counts[j];
+            uint32_t refusal = count > LONGEST_PAGE || count > size / NUMBER ? QV_LENGTH : 0;
+            check(refusal, qv_page_refusal(page, count, size), "qv_page_refusal(.., %zu, %zu)", count, size);
+        }
 }
 
 static void check_style(uint64_t style)
@@ -815,19 +953,36 @@ static void check_calls_on_lines(void)
     check_random_chains();
 }
 
-int main(void)
+static void check_calls_on_pages(void)
 {
-    make_block();
-    if (sigsetjmp(before_calls, 1) != 0) {
-        fprintf(stderr, "calls: stopped at a byte that was not lent; the last line: (\"%s\", %zu)\n",
-                shown(lent_line, lent_length), lent_length);
-        return 1;
-    }
+    check_cut_pages();
+    check_page_sizes();
+    check_pages_of_one_byte();
+    check_changed_pages();
+    check_longest_pages();
+    check_page_refusals();
+}
+
+static void check_calls(void)
+{
     check_style(QV_JULIAN);
     check_style(QV_GREGORIAN);
     check_calls_on_numbers();
     check_calls_on_lines();
     check_longest_transcript();
+    check_calls_on_pages();
+}
+
+int main(void)
+{
+    block = make_block(BLOCK);
+    pages = make_block(2 * BLOCK);
+    places = make_block(5 * BLOCK);
+    if (!ends_within_blocks(check_calls)) {
+        fprintf(stderr, "calls: stopped at a byte that was not lent; the last line: (\"%s\", %zu)\n",
+                shown(lent_line, lent_length), lent_length);
+        return 1;
+    }
     if (failures > 0) {
         fprintf(stderr, "calls: %lu of %lu checks failed\n", failures, checks);
         return 1;
