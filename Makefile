@@ -1,5 +1,5 @@
 .POSIX:
-.PHONY: check tests answers lib install uninstall prefix kit
+.PHONY: check tests answers lib bench install uninstall prefix kit
 .NOTPARALLEL:
 
 PREFIX = /usr/local
@@ -37,6 +37,10 @@ answers: kit
 # The archive for C programs, target/staticlib/libqashmelvit.a.
 lib: kit
 	rt staticlib qashmelvit
+
+# Times of the call on transcripts, which are no part of the test.
+bench: kit
+	bench/run
 
 # Header, archive, pkg-config file, programs and manual pages, below DESTDIR and PREFIX.
 install: prefix lib
