@@ -38,7 +38,7 @@ answers: kit
 lib: kit
 	rt staticlib qashmelvit
 
-# Times of the call on transcripts, which are no part of the test.
+# Times of the calls on transcripts and on pages, which are no part of the test.
 bench: kit
 	bench/run
 

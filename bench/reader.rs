@@ -1,0 +1,239 @@
+//! A plain reader of pages, written for speed, which the library is measured against. It goes once over a line, from left to right, and
+//! looks for a line feed only where the line is refused. A wrapper or feast word is told by one look into the table of words: its first
+//! bytes multiplied are its slot, and all of it is compared as one number. A year too is read as one number. Days come from closed forms,
+//! the same for every feast.
+
+use crate::words::{Place, STAY, Step, WORDS, Word, place, slot};
+
+/// The most bytes of a page.
+pub const LONGEST_PAGE: usize = 65536;
+
+/// The most bytes of a line.
+pub const LONGEST_LINE: usize = 120;
+
+/// The most wrappers of a line: the shortest has seven bytes, and so has the shortest line without one.
+const MOST_WRAPPERS: usize = (LONGEST_LINE - 7) / 7;
+
+/// The refusals of a line.
+const LENGTH: u32 = 2;
+const FORM: u32 = 3;
+const YEAR: u32 = 4;
+const DATE: u32 = 5;
+const SPAN: u32 = 6;
+
+/// The first day of each style's span, and how many follow it.
+const JULIAN: (u32, u32) = (1721424, 5373557 - 1721424);
+const GREGORIAN: (u32, u32) = (2299161, 5373484 - 2299161);
+
+/// Days of each month in a common year, by its number.
+static LENGTHS: [u32; 13] = [0, 31, 28, 31, 30, 31, 30, 31, 31, 30, 31, 30, 31];
+
+/// The feast or date of a line.
+enum Anchor {
+    Feast(&'static Word),
+    Date(u32, u32),
+}
+
+/// The year at a line's end.
+struct Ending {
+    year: u32,
+    gregorian: bool,
+    /// The bytes of year and style.
+    length: usize,
+}
+
+/// The sixteen bytes at a place of the page, the first the lowest; behind the page's end there are line feeds.
+fn sixteen(page: &[u8], at: usize) -> u128 {
+    match page[at..].first_chunk() {
+        Some(&bytes) => u128::from_le_bytes(bytes),
+        None => last_bytes(&page[at..]),
+    }
+}
+
+/// Fewer than sixteen bytes, and line feeds behind them.
+#[cold]
+fn last_bytes(rest: &[u8]) -> u128 {
+    let mut bytes = [b'\n'; 16];
+    bytes[..rest.len()].copy_from_slice(rest);
+    u128::from_le_bytes(bytes)
+}
+
+/// How many of sixteen bytes stand before the first such byte.
+fn before_first(byte: u8, text: u128) -> u32 {
+    const ONES: u128 = u128::MAX / 255;
+    let other = text ^ (ONES * u128::from(byte));
+    (other.wrapping_sub(ONES) & !other & (ONES << 7)).trailing_zeros() / 8
+}
+
+/// How many bytes the wrapper at a text's start has, told by two of them, so that the next word need not wait for the table.
+fn wrapper_length(text: u64) -> usize {
+    let told = (text >> 24) as u16;
+    let is_eve = told == u16::from_le_bytes(*b" o");
+    let is_before = told == u16::from_le_bytes(*b" b");
+    "mon after ".len() + usize::from(is_before) - 3 * usize::from(is_eve)
+}
+
+/// A number of one or two digits at a text's start, the first not 0, and how many bits they have; 0 where there is none.
+fn number(text: u64) -> (u32, u32) {
+    let first = u32::from((text as u8).wrapping_sub(b'0'));
+    let second = u32::from(((text >> 8) as u8).wrapping_sub(b'0'));
+    let two = second < 10;
+    let value = if two { 10 * first + second } else { first };
+    (if first.wrapping_sub(1) < 9 { value } else { 0 }, 8 + 8 * u32::from(two))
+}
+
+/// The day and month at a text's start, and how many bytes they have with the space behind them.
+fn date(text: u64) -> Option<(u32, u32, usize)> {
+    let (day, day_bits) = number(text);
+    let (month, month_bits) = number(text >> (day_bits + 8));
+    let point = (text >> day_bits) as u8 == b'.';
+    let space = (text >> (day_bits + 8 + month_bits)) as u8 == b' ';
+    let good = point & space & (day.wrapping_sub(1) < 31) & (month.wrapping_sub(1) < 12);
+    good.then_some((day, month, (day_bits + month_bits) as usize / 8 + 2))
+}
+
+/// The year and style that are all of a line's rest; the digits become the bytes of one number, and those the year in two steps. Four
+/// digits, which most years have, are told without a search for the space.
+fn ending(text: u64) -> Option<Ending> {
+    let has_four = text & 0xff_f0f0_f0f0 == 0x20_3030_3030;
+    let count = if has_four { 4 } else { before_first(b' ', text.into()) };
+    let style = text.wrapping_shr(8 * count + 8) as u16;
+    let gregorian = style == u16::from_le_bytes(*b"G\n");
+    let digits = ((text ^ 0x3030_3030_3030_3030).wrapping_shl((8 * count).wrapping_neg()) >> 32) as u32;
+    let good = ((digits.wrapping_add(0x7676_7676) | digits) & 0x8080_8080 == 0)
+        & (text as u8 != b'0')
+        & (count.wrapping_sub(1) < 4)
+        & (gregorian | (style == u16::from_le_bytes(*b"J\n")));
+    let pairs = (digits.wrapping_mul((10 << 8) + 1) >> 8) & 0x00ff_00ff;
+    let year = pairs.wrapping_mul((100 << 16) + 1) >> 16;
+    good.then_some(Ending { year, gregorian, length: count as usize + 2 })
+}
+
+/// The last day of a year, or of the year before the first.
+fn last_day(year: u32, gregorian: bool) -> u32 {
+    let julian = 1721423 + 365 * year + year / 4;
+    if gregorian { julian + 2 + year / 400 - year / 100 } else { julian }
+}
+
+fn day_of_place(place: Place, year: u32, gregorian: bool) -> u32 {
+    last_day(year - u32::from(place.early), gregorian).wrapping_add_signed(place.days.into())
+}
+
+/// Days from 21 March to Easter's limit.
+fn moon(year: u32, gregorian: bool) -> u32 {
+    let years = year % 19;
+    if !gregorian {
+        return (19 * years + 15) % 30;
+    }
+    let century = year / 100;
+    let days = (19 * years + century - century / 4 - (8 * century + 13) / 25 + 15) % 30;
+    days - u32::from(days + u32::from(years > 10) > 28)
+}
+
+fn is_leap(year: u32, gregorian: bool) -> bool {
+    year % 4 == 0 && (!gregorian || year % 100 != 0 || year % 400 == 0)
+}
+
+/// The day or the refusal of what a line says.
+fn day(wrappers: &[u8], anchor: Anchor, year: u32, gregorian: bool) -> u32 {
+    if gregorian && year < 1582 {
+        return YEAR;
+    }
+    let (mut day, step) = match anchor {
+        Anchor::Feast(word) => {
+            if gregorian && year == 1582 && word.hangs_on_easter {
+                return YEAR;
+            }
+            let moon = moon(year, gregorian) * u32::from(word.hangs_on_easter);
+            (day_of_place(word.place, year, gregorian) + moon, &word.step)
+        }
+        Anchor::Date(day, month) => {
+            if day > LENGTHS[month as usize] && !(day == 29 && is_leap(year, gregorian)) {
+                return DATE;
+            }
+            (day_of_place(place(day, month), year, gregorian), &STAY)
+        }
+    };
+    let (first, more) = if gregorian { GREGORIAN } else { JULIAN };
+    let mut weekday = (day % 7) as usize;
+    let mut outside = false;
+    let mut take = |step: &Step| {
+        day = day.wrapping_add_signed(step.days[weekday % 8].into());
+        weekday = step.reaches[weekday % 8].into();
+        outside |= day.wrapping_sub(first) > more;
+    };
+    take(step);
+    wrappers.iter().rev().for_each(|&slot| take(&WORDS[usize::from(slot) % 128].step));
+    if outside { SPAN } else { day }
+}
+
+/// The refusal of a line that the grammar does not produce, and its end; before `at` it has no line feed.
+fn refused(page: &[u8], start: usize, mut at: usize) -> (u32, usize) {
+    let end = loop {
+        let count = before_first(b'\n', sixteen(page, at)) as usize;
+        at += count;
+        if count < 16 {
+            break at;
+        }
+    };
+    (if (1..=LONGEST_LINE).contains(&(end - start)) { FORM } else { LENGTH }, end)
+}
+
+/// The day or the refusal of the line that starts at a place of the page, and its end.
+fn line(page: &[u8], start: usize) -> (u32, usize) {
+    let mut wrappers = [0; MOST_WRAPPERS];
+    let mut count = 0;
+    let mut at = start;
+    let anchor = loop {
+        let text = sixteen(page, at);
+        let slot = slot(text as u64);
+        let word = &WORDS[slot];
+        if text & word.mask != word.text {
+            let Some((day, month, length)) = date(text as u64) else {
+                return refused(page, start, at);
+            };
+            at += length;
+            break Anchor::Date(day, month);
+        }
+        if !word.is_wrapper {
+            at += usize::from(word.length);
+            break Anchor::Feast(word);
+        }
+        if count == MOST_WRAPPERS {
+            return refused(page, start, at);
+        }
+        wrappers[count] = slot as u8;
+        count += 1;
+        at += wrapper_length(text as u64);
+    };
+    let Some(Ending { year, gregorian, length }) = ending(sixteen(page, at) as u64) else {
+        return refused(page, start, at);
+    };
+    let end = at + length;
+    (if end - start > LONGEST_LINE { LENGTH } else { day(&wrappers[..count], anchor, year, gregorian) }, end)
+}
+
+/// How many lines a page has; 255 line feeds are the most that a byte counts.
+fn lines(page: &[u8]) -> usize {
+    let feeds = |part: &[u8]| usize::from(part.iter().map(|&byte| u8::from(byte == b'\n')).sum::<u8>());
+    page.chunks(255).map(feeds).sum::<usize>() + usize::from(page.last().is_some_and(|&last| last != b'\n'))
+}
+
+/// Puts the day or the refusal of each line into a place of four bytes, low byte first, and answers how many lines there are; 0 for too
+/// long a page or too few places, which then stay as they are.
+pub fn read(page: &[u8], places: &mut [u8]) -> usize {
+    if page.len() > LONGEST_PAGE || lines(page) > places.len() / 4 {
+        return 0;
+    }
+    let (mut start, mut count) = (0, 0);
+    for place in places.chunks_exact_mut(4) {
+        if start >= page.len() {
+            break;
+        }
+        let (answer, end) = line(page, start);
+        place.copy_from_slice(&answer.to_le_bytes());
+        start = end + 1;
+        count += 1;
+    }
+    count
+}
