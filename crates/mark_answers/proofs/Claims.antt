@@ -10,6 +10,7 @@ use Rattle.dating.proofs.Claims.{one-text}
 use Rattle.marks.proofs.Claims.{one-list, both-checked}
 use Rattle.marks.proofs.mark.Marks.{has-marks, one-marks}
 use Rattle.marks.proofs.transcript.Laws.{checked-on}
+use Rattle.places.proofs.Turn.{one-turn}
 use Rattle.words.specs.Text.{over}
 use Rattle.dating.specs.Answer.{refusedText}
 use Rattle.marks.specs.Mark.{AreMarks}
@@ -171,11 +172,6 @@ whole-run s size t room run =
     (λ k. record { characters = k .characters; spells = k .spells; marks = k .marks; are-marks = k .are-marks; texts = k .texts })
     (run-rest room run)
 
-one-tellings : (s cs : List ℕ) (ms : List Mark) (t u : List ℕ) → TellsMarks s cs ms t → TellsMarks s cs ms u → t ≡ u
-one-tellings s cs [] t u h k = h ∙ sym k
-one-tellings s cs (m ∷ ms) t u (a, (v, (first, (rest, e)))) (b, (w, (other, (more, f)))) =
-    e ∙ ap₂ (λ (x y : List ℕ). x ++ y) (one-telling s cs m a b first other) (one-tellings s cs ms v w rest more) ∙ sym f
-
 -- A transcript has no two outputs.
 pub one-output : (s t u : List ℕ) → IsTranscriptOutput s t → IsTranscriptOutput s u → t ≡ u
 one-output s t u h k =
@@ -185,4 +181,5 @@ one-output s t u h k =
     all : Tells s t → Tells s u → t ≡ u
     all f g =
         let texts = rw (one-list (f .spells) (g .spells), one-marks (f .are-marks) (g .are-marks)) at (f .texts) in
-        one-tellings s (g .characters) (g .marks) t u texts (g .texts)
+        let cs = g .characters in
+        one-turn (TellsMark s cs) (one-telling s cs) (g .marks) t u texts (g .texts)

@@ -8,6 +8,7 @@ use Rattle.words.specs.Numeral.{field}
 use Rattle.words.specs.Text.{space, over}
 use Rattle.dating.specs.Answer.{refusedText, IsAnswer}
 use Rattle.marks.specs.Mark.{AreMarks}
+use Rattle.places.specs.Turn.{InTurn}
 use Rattle.marks.specs.Transcript.{Checked, readable}
 use Rattle.marks.specs.Utf8.{Spells, charactersBefore}
 use Rattle.calendar.specs.declared.refusal.Refusal.{Refusal}
@@ -26,8 +27,7 @@ TellsMark s cs m t = (a : List ℕ) × (
 
 -- t tells the marks, one behind the other
 abbrev pub TellsMarks : (s cs : List ℕ) → List Mark → List ℕ → Type 0
-TellsMarks s cs [] t = t ≡ []
-TellsMarks s cs (m ∷ ms) t = (a : List ℕ) × ((u : List ℕ) × (TellsMark s cs m a × (TellsMarks s cs ms u × (t ≡ a ++ u))))
+TellsMarks s cs = InTurn (TellsMark s cs)
 
 -- ---- a call
 -- the text t tells the first k of the marks, as many as have room: 49 bytes, the most that is told of a mark, are free for each

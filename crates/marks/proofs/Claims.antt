@@ -2,14 +2,15 @@
 use mathlib.Core.Bool.{Bool, true, false}
 use mathlib.Core.List.{List, [], _∷_, _++_}
 use mathlib.Core.Logic.{_⊎_, inl, inr, ⊎-elim}
-use mathlib.Core.Path.{_≡_, refl, sym, _∙_, ap, ap₂}
+use mathlib.Core.Path.{_≡_, refl, sym, _∙_, ap}
 use Prim.Native.Char.{code}
 use Prim.Native.Nat.{ℕ, suc, _+_, _-_, _*_, _<_, _≤_}
 use native.Mathlib.Decide.{decLt}
 use native.Mathlib.Omega.{arith}
-use lib.ListN.{length, take, drop, getD, length-append}
+use lib.ListN.{length, take, drop, getD}
 use lib.Seq.{slice, take-append-seam, drop-append-seam}
 use Rattle.dating.proofs.Claims.{one-answer}
+use Rattle.places.proofs.Turn.{one-turn, turn-length}
 use Rattle.marks.proofs.mark.Laws.{two-bytes, pair-two}
 use Rattle.marks.proofs.mark.Marks.{has-marks, ends-in, end-inside, behind-other, one-end}
 use Rattle.marks.proofs.mark.Marks as mark-laws
@@ -18,7 +19,7 @@ use Rattle.marks.proofs.utf8.Laws.{Split, characters-at, between-splits
 pub use Rattle.marks.proofs.utf8.Laws.{one-list, Ascii, ascii-counts, longer-differs}
 use Rattle.calendar.specs.Refusal.{refusalNumber}
 use Rattle.marks.specs.Mark.{opening, closing, IsMark, AreMarks, IsFirstMark}
-use Rattle.marks.specs.Transcript.{IsNextMark, IsPlace, Places, Found, Condition, _unless_, Checked, conditions}
+use Rattle.marks.specs.Transcript.{IsNextMark, IsPlace, Found, Condition, _unless_, Checked, conditions}
 use Rattle.marks.specs.Transcript.{FindsMarks, TellsRefusal, marksRefusal}
 use Rattle.marks.specs.Utf8.{Spells, TellsUtf8, charactersBefore, starts}
 use Rattle.calendar.specs.declared.refusal.Refusal.{Refusal}
@@ -110,30 +111,25 @@ one-place s cs m t u (n, (h, e)) (k, (l, f)) =
     let same = one-answer n k h l in
     e ∙ rw same (sym f)
 
-one-places : (s cs : List ℕ) (ms : List Mark) (t u : List ℕ) → Places s cs ms t → Places s cs ms u → t ≡ u
-one-places s cs [] t u h k = h ∙ sym k
-one-places s cs (m ∷ ms) t u (p, (v, (first, (rest, e)))) (q, (w, (other, (more, f)))) =
-    e ∙ ap₂ (λ (x y : List ℕ). x ++ y) (one-place s cs m p q first other) (one-places s cs ms v w rest more) ∙ sym f
-
 -- What is found in a transcript is the same, whatever the places held before: the marks' number, and the bytes that are put.
 same-found : {s b a c d : List ℕ} {n k : ℕ} (h : Found s b a n) (l : Found s c d k) → (n ≡ k) × (h .text ≡ l .text)
 same-found {s} h l =
     let marks = mark-laws.one-marks (h .are-marks) (l .are-marks) in
     let points = one-list (h .spells) (l .spells) in
     let told = rw (points, marks) at (h .places) in
-    (h .count ∙ ap length marks ∙ sym (l .count), one-places s (l .characters) (l .marks) (h .text) (l .text) told (l .places))
-
-places-length : (s cs : List ℕ) (ms : List Mark) (t : List ℕ) → Places s cs ms t → length t ≡ length ms * 20
-places-length s cs [] t h = ap length h
-places-length s cs (m ∷ ms) t (p, (u, (first, (rest, e)))) =
-    let one = ap length (first .1 .1) ∙ place-length (m .start) (m .end) (charactersBefore (m .start) cs) (charactersBefore (m .end) cs) (first .0) in
-    let more = places-length s cs ms u rest in
-    let all = ap length e ∙ length-append p u in
-    omega arith
+    let cs = l .characters in
+    (h .count ∙ ap length marks ∙ sym (l .count), one-turn (IsPlace s cs) (one-place s cs) (l .marks) (h .text) (l .text) told (l .places))
 
 -- the bytes that are put are 20 for each mark
+twenty : (s cs : List ℕ) (m : Mark) (t : List ℕ) → IsPlace s cs m t → length t ≡ 20
+twenty s cs m t (n, (h, e)) =
+    ap length e ∙ place-length (m .start) (m .end) (charactersBefore (m .start) cs) (charactersBefore (m .end) cs) n
+
 text-length : {s b a : List ℕ} {n : ℕ} (h : Found s b a n) → n * 20 ≡ length (h .text)
-text-length {s} h = let all = places-length s (h .characters) (h .marks) (h .text) (h .places) in omega (arith, h .count)
+text-length {s} h =
+    let cs = h .characters in
+    let all = turn-length (IsPlace s cs) 20 (twenty s cs) (h .marks) (h .text) (h .places) in
+    omega (arith, h .count)
 
 pub whatever-before : (s b a c d : List ℕ) (n k : ℕ) → Found s b a n → Found s c d k → (n ≡ k) × (take (n * 20) a ≡ take (n * 20) d)
 whatever-before s b a c d n k h l =

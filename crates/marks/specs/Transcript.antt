@@ -8,6 +8,7 @@ use lib.Seq.{slice}
 use Rattle.calendar.specs.Refusal.{refusalNumber}
 use Rattle.dating.specs.Line.{IsNumberOfLine}
 use Rattle.places.specs.Number.{numberBytes}
+use Rattle.places.specs.Turn.{InTurn}
 use Rattle.marks.specs.Mark.{AreMarks, IsFirstMark}
 use Rattle.marks.specs.Utf8.{Spells, IsUtf8, charactersBefore, starts}
 use Rattle.calendar.specs.declared.refusal.Refusal.the-variants.{Length, Encoding}
@@ -36,8 +37,7 @@ IsPlace s cs m t = (n : ℕ) × (
 
 -- the bytes t tell the marks, one behind the other
 abbrev pub Places : (s cs : List ℕ) → List Mark → List ℕ → Type 0
-Places s cs [] t = t ≡ []
-Places s cs (m ∷ ms) t = (p : List ℕ) × ((u : List ℕ) × (IsPlace s cs m p × (Places s cs ms u × (t ≡ p ++ u))))
+Places s cs = InTurn (IsPlace s cs)
 
 -- the n marks of the transcript s stand in the places, which held the bytes before: "their number is answered; later places stay"
 pub record Found (s before after : List ℕ) (n : ℕ) : Type 0 where

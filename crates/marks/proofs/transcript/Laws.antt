@@ -1,5 +1,5 @@
 -- Places, filled one behind the other.
-use mathlib.Core.List.{List, [], _∷_, _++_, append-nil, append-assoc}
+use mathlib.Core.List.{List, [], _∷_, _++_}
 use mathlib.Core.Logic.{inl, inr}
 use mathlib.Core.Path.{_≡_, refl, sym, _∙_, ap}
 use Prim.Native.Char.{code}
@@ -12,6 +12,7 @@ use Rattle.marks.proofs.mark.Laws.{either, two-bytes, pair-two}
 use Rattle.marks.proofs.mark.Marks.{ends-in, end-inside, shifted, mark-on, Upto, upto-first, upto-next, upto-last, upto-few, one-marks}
 use Rattle.marks.proofs.utf8.Laws.{starts-append, Split, ascii-splits, characters-at}
 use Rattle.places.proofs.Bytes.{sets-both, sets-start}
+use Rattle.places.proofs.Turn.{turn-append, turn-one}
 use Rattle.places.proofs.number.Laws.{number-length, number-first, number-behind}
 use Rattle.calendar.specs.Refusal.{refusalNumber}
 use Rattle.dating.specs.Line.{IsNumberOfLine}
@@ -176,10 +177,6 @@ next-small {s} {i} {characters} r a e f p (h, (count-first, count-past)) =
     record { forward = h .0 .forward; inside = omega arith; first-few = omega (arith, count-first); past-few = omega (arith, count-past) }
 
 -- ---- places filled mark by mark
-places-on : (s cs : List ℕ) (ms : List Mark) (m : Mark) (t p : List ℕ) → Places s cs ms t → IsPlace s cs m p → Places s cs (ms ++ m ∷ []) (t ++ p)
-places-on s cs [] m t p h k = rw h (p, ([], (k, (refl, sym (append-nil p)))))
-places-on s cs (x ∷ ms) m t p (q, (u, (first, (rest, e)))) k = (q, (u ++ p, (first, (places-on s cs ms m u p rest k, rw e (append-assoc q u p)))))
-
 -- the marks before the place i have their places, which take so many bytes
 pub record Filling (s before : List ℕ) (place i characters : ℕ) (after : List ℕ) : Type 0 where
   pub points : List ℕ
@@ -255,13 +252,15 @@ module _ {s before : List ℕ} {place i characters : ℕ} {after : List ℕ} (p 
         let its-first = first-before reached m h first past count-first count-past spells in
         let its-past = past-before reached m h first past count-first count-past spells in
         let k : place ≡ 0 + length (p .text) = omega (arith, p .size) in
+        let tells = IsPlace s (p .points) in
+        let one = turn-one tells mark t (n, (line, rw (its-first, its-past))) in
         record {
           points = p .points;
           spells = spells;
           marks = p .marks ++ mark ∷ [];
           reached = reach-next reached m h first past count-first count-past;
           text = p .text ++ t;
-          places = places-on s (p .points) (p .marks) mark (p .text) t (p .places) (n, (line, rw (its-first, its-past)));
+          places = turn-append tells (p .marks) (mark ∷ []) (p .text) t (p .places) one;
           size = omega (arith, p .size);
           whole = omega (arith, p .whole);
           bytes = bytes ∙ rw (p .bytes, k) (sets-both (p .text) t before 0);
