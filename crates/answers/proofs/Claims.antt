@@ -59,7 +59,8 @@ one-output s t u h k = one-turn IsAnswer one-text (linesOf s) t u h k
 -- Any two results of a block are one: the same numbers, and the same bytes in both buffers.
 pub one-block : (s b m n o p q : List ℕ) (r u : Progress) → AnswersBlock s b m o p r → AnswersBlock s b n o q u → (r ≡ u) × ((m ≡ n) × (p ≡ q))
 one-block s b m n o p q r u h k =
-    let output = one-written (Answers (endedLines [] s)) (one-turn IsAnswer one-text (endedLines [] s)) o p q (r .written) (u .written) (h .output) (k .output) in
+    let ls = endedLines [] s in
+    let output = one-written (Answers ls) (one-turn IsAnswer one-text ls) o p q (r .written) (u .written) (h .output) (k .output) in
     let keeps = h .keeps ∙ sym (k .keeps) in
     (λ i. record { written = output .0 i; kept = keeps i }, (h .buffer ∙ sym (k .buffer), output .1))
 
@@ -116,7 +117,8 @@ page-refused s size =
     ]
 
 -- The refusal that is told is the call's own.
-pub refusal-told : (s before after : List ℕ) (r : PageAnswer) → FillsPage Lines NoPage s before after r → pageRefusalOf r ≡ pageRefusal s (length before)
+pub refusal-told : (s before after : List ℕ) (r : PageAnswer) → FillsPage Lines NoPage s before after r
+    → pageRefusalOf r ≡ pageRefusal s (length before)
 refusal-told s before after r h = go (pageTests s (length before)) h
   where
     go : (ts : List Test)

@@ -45,7 +45,8 @@ unfolding endedLines openLine
 at-first tells s before =
     record { text = []; told = refl; count = refl; output = refl; begun = omega arith; inside = omega arith; left = refl }
 
-module _ {tells : List ℕ → List ℕ → Type 0} {s before : List ℕ} {put start i : ℕ} {after : List ℕ} (p : Sofar tells s before put start i after) where
+module _ {tells : List ℕ → List ℕ → Type 0} {s before : List ℕ} {put start i : ℕ} {after : List ℕ}
+    (p : Sofar tells s before put start i after) where
   pub sofar-length : length after ≡ length before
   sofar-length = ap length (p .output) ∙ length-sets before 0 (p .text)
 

@@ -1,6 +1,6 @@
 -- What is kept of a line that is still open, a block byte by byte, and the calls.
 use mathlib.Core.Bool.{false}
-use mathlib.Core.List.{List, [], _∷_, _++_, append-nil, append-assoc}
+use mathlib.Core.List.{List, [], _∷_, _++_}
 use mathlib.Core.Logic.{_↔_, _⊎_, inl, inr}
 use mathlib.Core.Path.{_≡_, refl, sym, _∙_, ap, subst}
 use Prim.Native.Nat.{ℕ, zero, suc, _+_, _-_, _*_, _<_, _≤_, min}
@@ -10,8 +10,8 @@ use native.Mathlib.Omega.{arith}
 use lib.Dec.{eqb}
 use lib.ListN.{length, take, drop, getD, set, length-append, length-take, length-drop}
 use lib.Seq.{length-take-le, take-all, take-length, take-suc, take-append-seam, take-append-le, take-take, take-add, drop-cons, drop-at}
-use lib.Seq.{append-snoc, getD-append-add, getD-drop, set-append-seam, sets, length-sets}
-use borrow.Author.Tests.{eq-eqb, ne-eqb, le-leb}
+use lib.Seq.{append-snoc, getD-append-add, getD-drop, set-append-seam, sets}
+use borrow.Author.Tests.{le-leb}
 use Rattle.words.proofs.text.Laws.{either, neither}
 use Rattle.dating.proofs.answer.Laws.{answer-length, overlong}
 use Rattle.places.proofs.Bytes.{sets-start}

@@ -2,7 +2,7 @@
 use mathlib.Core.Bool.{true, false}
 use mathlib.Core.List.{List, [], _∷_, _++_, append-nil}
 use mathlib.Core.Path.{_≡_, refl, sym, _∙_, ap}
-use Prim.Native.Nat.{ℕ, suc, _+_, _-_, _*_, _/_, _<_, _≤_}
+use Prim.Native.Nat.{ℕ, _+_, _-_, _*_, _/_, _<_, _≤_}
 use native.Mathlib.Omega.{arith}
 use lib.ListN.{length, take, drop, getD, length-append, length-drop, take-append-drop, drop-of-length-le}
 use lib.Seq.{take-all, sets}
@@ -17,7 +17,6 @@ use Rattle.calendar.specs.Refusal.{Test, _unless_, checked}
 use Rattle.dating.specs.Answer.{lineFeed}
 use Rattle.dating.specs.Line.{IsNumberOfLine}
 use Rattle.places.specs.Number.{numberBytes, withNumber}
-use Rattle.places.specs.Turn.{InTurn}
 use Rattle.answers.specs.Lines.{endedLines, openLine, lastLine, linesOf}
 use Rattle.answers.specs.Page.{pageTests, IsPlace, Filled, FillsPage, pageRefusal, pageRefusalOf}
 use Rattle.answers.specs.Steps.{linesInSize}
@@ -76,7 +75,8 @@ module _ {s : List ℕ} {count i : ℕ} (p : Counted s count i) (end : length s 
 
   pub ended-count : last ≡ lineFeed → count ≡ length (linesOf s)
   ended-count ends =
-      let none = ap (λ (t : List ℕ). length (lastLine (openLine [] t))) whole ∙ ap (λ (t : List ℕ). length (lastLine t)) (line-feed front last ends .1) in
+      let line = ap (openLine []) whole ∙ line-feed front last ends .1 in
+      let none = ap length (ap lastLine line) in
       omega (arith, line-count s, all-counted)
 
   pub open-count : (last ≡ lineFeed → ⊥) → count + 1 ≡ length (linesOf s)
@@ -192,7 +192,8 @@ module _ (s before : List ℕ) where
   pub has-places : (n : ℕ) → Lines n ≡ linesInSize s size → length (linesOf s) ≤ size / 4
   has-places n e = leb-true (length (linesOf s)) (size / 4) (lines-passed (pageTests s size) (length (linesOf s)) n e .0 .1 .0)
 
-  pub page-filled : (n : ℕ) (after : List ℕ) → Lines n ≡ linesInSize s size → Filled s before after → FillsPage Lines NoPage s before after (Lines n)
+  pub page-filled : (n : ℕ) (after : List ℕ) → Lines n ≡ linesInSize s size → Filled s before after
+      → FillsPage Lines NoPage s before after (Lines n)
   page-filled n after e done =
       let p = lines-passed (pageTests s size) (length (linesOf s)) n e in
       rw (p .0 .0, p .0 .1 .0) (ap Lines (p .1), done)

@@ -35,7 +35,8 @@ add-place : tie.Need-add-place Inv-loop μ-loop
 add-place c =
     let l = c .before .before .before .before .before .before .before .before .before in
     let more = c .before .before .before .before .before .before .before .before .loop-test .taken in
-    omega (arith, end-room (l .loop .inv) (l .before .before .before .pre) more (c .before .before .before .before .before .before .if1 .taken), sofar-length (l .loop .inv))
+    let ends = c .before .before .before .before .before .before .if1 .taken in
+    omega (arith, end-room (l .loop .inv) (l .before .before .before .pre) more ends, sofar-length (l .loop .inv))
 
 add-start : tie.Need-add-start Inv-loop μ-loop
 add-start c = omega (arith, c .before .before .before .before .before .before .before .before .loop-test .taken)
@@ -60,9 +61,6 @@ sub-number-of-line-2 c = omega (arith, c .if2 .taken)
 
 part-number-of-line-start-2 : tie.Need-part-number-of-line-start-2 Inv-loop μ-loop
 part-number-of-line-start-2 c = search (needs, c .if2 .taken)
-
-part-number-of-line-end-2 : tie.Need-part-number-of-line-end-2 Inv-loop μ-loop
-part-number-of-line-end-2 c = search needs
 
 same-length : tie.Need-same-length Inv-loop μ-loop
 same-length c = search (needs, sofar-length (c .before .before .before .before .before .before .before .before .loop .inv))
@@ -101,7 +99,7 @@ fill-places-spec =
     loop-again
     sub-number-of-line-2
     part-number-of-line-start-2
-    part-number-of-line-end-2
+    (λ c. search needs)
     (λ c κs. search needs)
     (λ c κs. search needs)
     same-length
