@@ -1,5 +1,4 @@
 -- What holds of a run and of a page beyond the contracts of their calls.
-use mathlib.Core.Bool.{true, false}
 use mathlib.Core.List.{List, [], _∷_, _++_, append-nil}
 use mathlib.Core.Logic.{_↔_, _⊎_, inl, inr, ⊎-elim}
 use mathlib.Core.Path.{_≡_, refl, sym, _∙_, ap}
@@ -8,6 +7,7 @@ use native.Mathlib.Decide.{decLt}
 use native.Mathlib.Omega.{arith}
 use lib.ListN.{length, take, drop, getD}
 use lib.Seq.{take-append-seam, drop-append-seam}
+use borrow.Author.Tests.{le-leb, lt-leb}
 use Rattle.calendar.proofs.refusal.Laws.{both-checked}
 use Rattle.dating.proofs.Claims.{one-answer, one-text, line-numbers}
 use Rattle.places.proofs.Claims.{reads-back}
@@ -16,19 +16,18 @@ use Rattle.answers.proofs.Lines.{lines-have, lines-known, lines-few, pa
 use Rattle.answers.proofs.Walk.{line-feed}
 use Rattle.answers.proofs.block.Laws.{one-written, written-text}
 use Rattle.answers.proofs.block.Laws as laws
-use Rattle.answers.proofs.page.Laws.{place-length, too-long, too-few, all-fit, refusal-of}
-use Rattle.calendar.specs.Refusal.{refusalNumber, Test, _unless_, checked}
+use Rattle.answers.proofs.page.Laws.{place-length, too-long, too-few, all-fit}
 use Rattle.words.specs.Text.{has, over}
 use Rattle.dating.specs.Answer.{lineFeed, IsAnswer}
 use Rattle.dating.specs.Line.{IsNumberOfLine}
 use Rattle.places.specs.Number.{numberBytes, numberOf}
 use Rattle.answers.specs.Block.{kept, AnswersBlock, AnswersLast, joined, Run}
-use Rattle.answers.specs.Lines.{endedLines, openLine, lastLine, linesOf, AllEnded, HasLines, Answers, IsOutput}
-use Rattle.answers.specs.Page.{pageTests, IsPlace, numberAt, Filled, FillsPage, pageRefusal, pageRefusalOf}
+use Rattle.answers.specs.Lines.{endedLines, openLine, lastLine, linesOf, AllEnded, eachEnded, AllLack, HasLines, none, ended, Answers, IsOutput}
+use Rattle.answers.specs.Page.{pageTests, pageAnswer, IsPlace, Filled, FillsPage, pageRefusal, numberAt}
+use Rattle.calendar.specs.declared.refusal.Refusal.the-variants.{Length}
 use Rattle.calendar.specs.declared.refusal.Refusal.{Refusal}
 use Rattle.answers.specs.declared.block.Progress.{Progress}
 use Rattle.answers.specs.declared.page.PageAnswer.the-variants.{Lines, NoPage}
-use Rattle.answers.specs.declared.page.PageAnswer.{PageAnswer}
 
 -- What has the shape of an input's lines is its lines, and nothing else is.
 pub has-lines : (s : List ℕ) (ls : List (List ℕ)) → HasLines s ls ↔ (ls ≡ linesOf s)
@@ -75,19 +74,34 @@ one-place l t u (n, (h, e)) (m, (k, f)) = e ∙ ap numberBytes (one-answer n m h
 number-small : (l : List ℕ) (n : ℕ) → IsNumberOfLine l n → n < 4294967296
 number-small l n h = ⊎-elim (λ k. omega arith) (λ k. omega arith) (line-numbers l n h)
 
--- Any two results of a page are one: the same answer, and the same bytes in the places.
-pub one-page : {R : Type 0} (told : ℕ → R) (refused : Refusal → R) (s before after then : List ℕ) (r q : R)
-    → FillsPage told refused s before after r → FillsPage told refused s before then q → (r ≡ q) × (after ≡ then)
-one-page told refused s before after then r q h k = both-checked (pageTests s (length before)) if-refused if-filled h k
+-- Any two results of a page are one: what is answered is an equation, and the bytes in the places are the same.
+pub one-page : (s before after then : List ℕ) → FillsPage s before after → FillsPage s before then → after ≡ then
+one-page s before after then h k = both-checked (pageTests s (length before)) stayed same h k
   where
-    if-refused : (x : Refusal) → (r ≡ refused x) × (after ≡ before) → (q ≡ refused x) × (then ≡ before) → (r ≡ q) × (after ≡ then)
-    if-refused x h k = (h .0 ∙ sym (k .0), h .1 ∙ sym (k .1))
+    stayed : Refusal → after ≡ before → then ≡ before → after ≡ then
+    stayed x e f = e ∙ sym f
 
-    if-filled : (r ≡ told (length (linesOf s))) × Filled s before after → (q ≡ told (length (linesOf s))) × Filled s before then
-        → (r ≡ q) × (after ≡ then)
-    if-filled (e, (t, (h, f))) (d, (u, (k, g))) =
-        let same = one-turn IsPlace one-place (linesOf s) t u h k in
-        (e ∙ sym d, f ∙ ap (λ (v : List ℕ). over v before) same ∙ sym g)
+    same : Filled s before after → Filled s before then → after ≡ then
+    same (t, (h, e)) (u, (k, f)) = e ∙ ap (λ (v : List ℕ). over v before) (one-turn IsPlace one-place (linesOf s) t u h k) ∙ sym f
+
+-- A page's places are filled and the number of its lines is answered, or it is refused by 2 and they are as they were.
+pub filled-or-refused : (s before after : List ℕ) → FillsPage s before after
+    → ((pageAnswer s (length before) ≡ Lines (length (linesOf s))) × Filled s before after)
+    ⊎ ((pageAnswer s (length before) ≡ NoPage Length) × (after ≡ before))
+filled-or-refused s before after h =
+    let size = length before in
+    elim (decLt 65536 (length s)) [
+      | yes long ↦ inr (sym (too-long s size long), rw (lt-leb (length s) 65536 long) at h)
+      | no short ↦
+          let fits : length s ≤ 65536 = omega arith in
+          elim (decLt (size / 4) (length (linesOf s))) [
+            | yes many ↦
+                inr (sym (too-few s size fits many), rw (le-leb (length s) 65536 fits, lt-leb (length (linesOf s)) (size / 4) many) at h)
+            | no few ↦
+                let enough : length (linesOf s) ≤ size / 4 = omega arith in
+                inl (sym (all-fit s size fits enough), rw (le-leb (length s) 65536 fits, le-leb (length (linesOf s)) (size / 4) enough) at h)
+          ]
+    ]
 
 -- A page equals its lines read singly, in order: a number stands in a line's place exactly when the line's own call answers it.
 pub read-singly : (s before after : List ℕ) → Filled s before after → (i : ℕ) → i < length (linesOf s) → (n : ℕ)
@@ -104,33 +118,25 @@ later-stay s before after (t, (h, e)) =
 
 -- A page is refused by 2 exactly when it has more than 65,536 bytes or more lines than places, and else by no number.
 pub page-refused : (s : List ℕ) (size : ℕ)
-    → ((pageRefusal s size ≡ 2) × ((65536 < length s) ⊎ (size / 4 < length (linesOf s))))
-    ⊎ ((pageRefusal s size ≡ 0) × ((length s ≤ 65536) × (length (linesOf s) ≤ size / 4)))
+    → ((pageRefusal (pageAnswer s size) ≡ 2) × ((65536 < length s) ⊎ (size / 4 < length (linesOf s))))
+    ⊎ ((pageRefusal (pageAnswer s size) ≡ 0) × ((length s ≤ 65536) × (length (linesOf s) ≤ size / 4)))
 page-refused s size =
     elim (decLt 65536 (length s)) [
-      | yes long ↦ inl (sym (refusal-of s size _ (too-long s size long)), inl long)
+      | yes long ↦ inl (sym (ap pageRefusal (too-long s size long)), inl long)
       | no short ↦
           elim (decLt (size / 4) (length (linesOf s))) [
-            | yes many ↦ inl (sym (refusal-of s size _ (too-few s size (omega arith) many)), inr many)
-            | no few ↦ inr (sym (refusal-of s size _ (all-fit s size (omega arith) (omega arith))), (omega arith, omega arith))
+            | yes many ↦ inl (sym (ap pageRefusal (too-few s size (omega arith) many)), inr many)
+            | no few ↦ inr (sym (ap pageRefusal (all-fit s size (omega arith) (omega arith))), (omega arith, omega arith))
           ]
     ]
 
--- The refusal that is told is the call's own.
-pub refusal-told : (s before after : List ℕ) (r : PageAnswer) → FillsPage Lines NoPage s before after r
-    → pageRefusalOf r ≡ pageRefusal s (length before)
-refusal-told s before after r h = go (pageTests s (length before)) h
-  where
-    go : (ts : List Test)
-        → checked (λ x. (r ≡ NoPage x) × (after ≡ before)) ((r ≡ Lines (length (linesOf s))) × Filled s before after) ts
-        → pageRefusalOf r ≡ checked refusalNumber 0 ts
-    go [] k = ap pageRefusalOf (k .0)
-    go (x unless true ∷ ts) k = go ts k
-    go (x unless false ∷ ts) k = ap pageRefusalOf (k .0)
+-- A page has at most a line for each byte.
+pub few-lines : (s : List ℕ) → length (linesOf s) ≤ length s
+few-lines s = lines-few s
 
--- A page has at most a line for each byte, so that 262,144 bytes of places serve every page.
-pub always-enough : (s : List ℕ) → length s ≤ 65536 → pageRefusal s 262144 ≡ 0
-always-enough s short = sym (refusal-of s 262144 _ (all-fit s 262144 short (omega (arith, lines-few s))))
+-- So 262,144 bytes of places are enough for every page of at most 65,536 bytes.
+pub always-enough : (s : List ℕ) (size : ℕ) → length s ≤ 65536 → 262144 ≤ size → pageRefusal (pageAnswer s size) ≡ 0
+always-enough s size short room = sym (ap pageRefusal (all-fit s size short (omega (arith, lines-few s))))
 
 -- A page of no bytes has no lines, and a line feed at the start ends a line of no bytes.
 pub no-bytes : linesOf [] ≡ []
@@ -140,6 +146,14 @@ no-bytes = refl
 pub blank-line : (s : List ℕ) → linesOf (lineFeed ∷ s) ≡ [] ∷ linesOf s
 unfolding endedLines openLine
 blank-line s = refl
+
+-- Lines that are each ended by a line feed are the lines of the page that they make, blank ones too.
+pub each-ended : (ls : List (List ℕ)) → AllLack ls → linesOf (eachEnded ls) ≡ ls
+each-ended ls h = sym (lines-known (go ls h))
+  where
+    go : (ls : List (List ℕ)) → AllLack ls → HasLines (eachEnded ls) ls
+    go [] h = none
+    go (l ∷ ls) h = ended (h .0) (go ls (h .1))
 
 -- A page that has no bytes or ends in a line feed, with another behind it, has the lines of the first and then those of the second.
 pub pages-joined : (s t : List ℕ) → AllEnded s → linesOf (s ++ t) ≡ linesOf s ++ linesOf t

@@ -1,4 +1,4 @@
-// A page of lines, the number of each in a place of its own.
+// A page of lines, the day or refusal of each in a place of its own.
 use calendar::refusal::Refusal;
 use calendar::refusal::refusal_number;
 use dating::line::number_of_line;
@@ -7,9 +7,7 @@ ghost use mathlib.Core.Path.{_≡_};
 ghost use Prim.Native.Nat.{_/_, _≤_};
 ghost use lib.ListN.{length};
 ghost use Rattle.answers.specs.Lines.{linesOf};
-ghost use Rattle.answers.specs.Page.{Filled, FillsPage, pageRefusal, linesOrZero};
-ghost use Rattle.answers.specs.Steps.{linesInSize};
-ghost use Rattle.answers.specs.declared.page.PageAnswer.the-variants.{Lines, NoPage};
+ghost use Rattle.answers.specs.Page.{pageAnswer, Filled, FillsPage, linesOrZero, pageRefusal};
 
 // The number of lines of a page, or why it is refused.
 pub enum PageAnswer {
@@ -39,7 +37,7 @@ fn count_lines(page: &[u8]) -> usize
     count + 1
 }
 
-// Puts the number of each line of a page in its place, of which there are enough.
+// Puts the day or refusal of each line of a page in its place, where there are places enough.
 fn fill_places(page: &[u8], places: &mut [u8])
     requires { ⌜ length (linesOf (now page)) ≤ length (now places) / 4 ⌝ }
     ensures { λ _. ⌜ Filled (now (page .entry)) (now (places .entry)) (now (places .exit)) ⌝ }
@@ -62,9 +60,9 @@ fn fill_places(page: &[u8], places: &mut [u8])
     }
 }
 
-// The number of lines that a page has, or the refusal 2, where places of so many bytes are lent.
+// The number of lines that a page has where size bytes of places are lent: refused by 2.
 fn lines_in_size(page: &[u8], size: usize) -> PageAnswer
-    ensures { λ r. ⌜ r ≡ linesInSize (now (page .entry)) size ⌝ }
+    ensures { λ r. ⌜ r ≡ pageAnswer (now (page .entry)) size ⌝ }
 {
     if page.len() > 65536 {
         return PageAnswer::NoPage(Refusal::Length);
@@ -76,9 +74,9 @@ fn lines_in_size(page: &[u8], size: usize) -> PageAnswer
     PageAnswer::Lines(count)
 }
 
-// Puts the number of each line of a page in a place of its own, and answers the number of lines: refused by 2.
+// Puts the day or refusal of each line of a page in a place of its own, and answers the number of lines: refused by 2.
 pub fn fill_page(page: &[u8], places: &mut [u8]) -> PageAnswer
-    ensures { λ r. ⌜ FillsPage Lines NoPage (now (page .entry)) (now (places .entry)) (now (places .exit)) r ⌝ }
+    ensures { λ r. ⌜ (r ≡ pageAnswer (now (page .entry)) (length (now (places .entry)))) × FillsPage (now (page .entry)) (now (places .entry)) (now (places .exit)) ⌝ }
 {
     match lines_in_size(page, places.len()) {
         PageAnswer::Lines(count) => {
@@ -89,9 +87,9 @@ pub fn fill_page(page: &[u8], places: &mut [u8]) -> PageAnswer
     }
 }
 
-// Why a page is refused where places of so many bytes are lent: 2, or 0 where it is not.
+// Why a page is refused where size bytes of places are lent: 2, or 0 where it is not.
 pub fn page_refusal(page: &[u8], size: usize) -> u32
-    ensures { λ r. ⌜ r ≡ pageRefusal (now (page .entry)) size ⌝ }
+    ensures { λ r. ⌜ r ≡ pageRefusal (pageAnswer (now (page .entry)) size) ⌝ }
 {
     match lines_in_size(page, size) {
         PageAnswer::Lines(_) => 0,

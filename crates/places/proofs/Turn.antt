@@ -1,4 +1,4 @@
--- What is told one behind the other: put together, taken apart, one text alone, its length, and its places.
+-- Bytes that tell several things, one behind the other: put together, taken apart, one text alone, its length, and its places.
 use mathlib.Core.List.{List, [], _∷_, _++_, append-nil, append-assoc}
 use mathlib.Core.Path.{_≡_, refl, sym, _∙_, ap, ap₂}
 use Prim.Native.Nat.{ℕ, zero, suc, _+_, _*_, _<_}

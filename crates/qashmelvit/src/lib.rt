@@ -19,7 +19,8 @@ use marks::transcript::find_marks;
 use marks::transcript::marks_or_zero;
 use marks::transcript::marks_refusal;
 ghost use mathlib.Core.Path.{_≡_};
-ghost use Rattle.answers.specs.Page.{FillsPage, pageRefusal};
+ghost use lib.ListN.{length};
+ghost use Rattle.answers.specs.Page.{pageAnswer, FillsPage, linesOrZero, pageRefusal};
 ghost use Rattle.calendar.specs.Date.{dayOfDate};
 ghost use Rattle.calendar.specs.Distance.{distanceOfDays, distanceRefusal, distanceOrZero};
 ghost use Rattle.calendar.specs.Span.{dayOrRefusal};
@@ -54,18 +55,18 @@ pub extern "C" fn qv_part_length(line: &[u8]) -> usize
     part_of_line(line).len()
 }
 
-// Puts the day or the refusal of each line of a page in a place of its own, and answers how many lines there are; 0 where the page is refused.
+// Puts the day or refusal of each line of a page in a place of its own, and answers how many lines there are; 0 where the page is refused.
 #[no_mangle]
 pub extern "C" fn qv_page(page: &[u8], places: &mut [u8]) -> usize
-    ensures { λ r. ⌜ FillsPage (λ n. n) (λ x. 0) (now (page .entry)) (now (places .entry)) (now (places .exit)) r ⌝ }
+    ensures { λ r. ⌜ (r ≡ linesOrZero (pageAnswer (now (page .entry)) (length (now (places .entry))))) × FillsPage (now (page .entry)) (now (places .entry)) (now (places .exit)) ⌝ }
 {
     lines_or_zero(fill_page(page, places))
 }
 
-// Why a page is refused where places of so many bytes are lent: 2, or 0.
+// Why a page is refused where size bytes of places are lent: 2, or 0 where it is not.
 #[no_mangle]
 pub extern "C" fn qv_page_refusal(page: &[u8], size: usize) -> u32
-    ensures { λ r. ⌜ r ≡ pageRefusal (now (page .entry)) size ⌝ }
+    ensures { λ r. ⌜ r ≡ pageRefusal (pageAnswer (now (page .entry)) size) ⌝ }
 {
     page_refusal(page, size)
 }

@@ -7,7 +7,7 @@ use native.Mathlib.Omega.{arith}
 use lib.ListN.{length, take, drop, getD, length-append, length-drop, take-append-drop, drop-of-length-le}
 use lib.Seq.{take-all, sets}
 use borrow.Author.Tests.{leb-true, le-leb, lt-leb}
-use Rattle.calendar.proofs.refusal.Laws.{AllPass, checked-map, checked-on}
+use Rattle.calendar.proofs.refusal.Laws.{AllPass}
 use Rattle.places.proofs.Bytes.{sets-both, sets-start}
 use Rattle.places.proofs.Turn.{turn-append, turn-one, turn-length}
 use Rattle.places.proofs.number.Laws.{number-length, number-first}
@@ -18,12 +18,10 @@ use Rattle.dating.specs.Answer.{lineFeed}
 use Rattle.dating.specs.Line.{IsNumberOfLine}
 use Rattle.places.specs.Number.{numberBytes, withNumber}
 use Rattle.answers.specs.Lines.{endedLines, openLine, lastLine, linesOf}
-use Rattle.answers.specs.Page.{pageTests, IsPlace, Filled, FillsPage, pageRefusal, pageRefusalOf}
-use Rattle.answers.specs.Steps.{linesInSize}
+use Rattle.answers.specs.Page.{pageTests, pageAnswer, IsPlace, Filled, FillsPage}
 use Rattle.calendar.specs.declared.refusal.Refusal.the-variants.{Length}
 use Rattle.calendar.specs.declared.refusal.Refusal.{Refusal}
 use Rattle.answers.specs.declared.page.PageAnswer.the-variants.{Lines, NoPage}
-use Rattle.answers.specs.declared.page.PageAnswer.{PageAnswer}
 
 -- ---- how many lines there are
 -- a line that lacks its line feed is one more
@@ -156,55 +154,47 @@ module _ {s before : List ℕ} {place start i : ℕ} {after : List ℕ} (p : Sof
 
 -- ---- what the calls answer
 module _ (s : List ℕ) (size : ℕ) where
-  pub too-long : 65536 < length s → NoPage Length ≡ linesInSize s size
+  pub too-long : 65536 < length s → NoPage Length ≡ pageAnswer s size
   too-long h = rw (lt-leb (length s) 65536 h)
 
   module _ (short : length s ≤ 65536) where
-    pub too-few : size / 4 < length (linesOf s) → NoPage Length ≡ linesInSize s size
+    pub too-few : size / 4 < length (linesOf s) → NoPage Length ≡ pageAnswer s size
     too-few h = rw (le-leb (length s) 65536 short, lt-leb (length (linesOf s)) (size / 4) h)
 
-    pub all-fit : length (linesOf s) ≤ size / 4 → Lines (length (linesOf s)) ≡ linesInSize s size
+    pub all-fit : length (linesOf s) ≤ size / 4 → Lines (length (linesOf s)) ≡ pageAnswer s size
     all-fit h = rw (le-leb (length s) 65536 short, le-leb (length (linesOf s)) (size / 4) h)
-
-  pub refusal-of : (r : PageAnswer) → r ≡ linesInSize s size → pageRefusalOf r ≡ pageRefusal s size
-  refusal-of r e = ap pageRefusalOf e ∙ checked-map pageRefusalOf NoPage (Lines (length (linesOf s))) (pageTests s size)
 
 no-page : {A : Type 0} (n : ℕ) (x : Refusal) → Lines n ≡ NoPage x → A
 no-page n x e = let z : _≡_ {A = ℕ} 0 1 = cc in absurd (omega arith)
 
 -- the lines are answered where all tests are passed
-lines-passed : (ts : List Test) (m n : ℕ) → Lines n ≡ checked NoPage (Lines m) ts → AllPass ts × (n ≡ m)
-lines-passed [] m n e = (tt, cc)
-lines-passed (x unless true ∷ ts) m n e = let p = lines-passed ts m n e in ((refl, p .0), p .1)
+lines-passed : (ts : List Test) (m n : ℕ) → Lines n ≡ checked NoPage (Lines m) ts → AllPass ts
+lines-passed [] m n e = tt
+lines-passed (x unless true ∷ ts) m n e = (refl, lines-passed ts m n e)
 lines-passed (x unless false ∷ ts) m n e = no-page n x e
 
 -- and refused by the first that is not
 first-refused : (ts : List Test) (m : ℕ) (x : Refusal) (before : List ℕ) (answer : Type 0) → NoPage x ≡ checked NoPage (Lines m) ts
-    → checked (λ y. (NoPage x ≡ NoPage y) × (before ≡ before)) answer ts
+    → checked (λ y. before ≡ before) answer ts
 first-refused [] m x before answer e = no-page m x (sym e)
 first-refused (y unless true ∷ ts) m x before answer e = first-refused ts m x before answer e
-first-refused (y unless false ∷ ts) m x before answer e = (e, refl)
+first-refused (y unless false ∷ ts) m x before answer e = refl
 
 module _ (s before : List ℕ) where
   abbrev size : ℕ
   size = length before
 
-  pub has-places : (n : ℕ) → Lines n ≡ linesInSize s size → length (linesOf s) ≤ size / 4
-  has-places n e = leb-true (length (linesOf s)) (size / 4) (lines-passed (pageTests s size) (length (linesOf s)) n e .0 .1 .0)
+  abbrev Fits : Type 0
+  Fits = AllPass (pageTests s size)
 
-  pub page-filled : (n : ℕ) (after : List ℕ) → Lines n ≡ linesInSize s size → Filled s before after
-      → FillsPage Lines NoPage s before after (Lines n)
-  page-filled n after e done =
-      let p = lines-passed (pageTests s size) (length (linesOf s)) n e in
-      rw (p .0 .0, p .0 .1 .0) (ap Lines (p .1), done)
+  fits : (n : ℕ) → Lines n ≡ pageAnswer s size → Fits
+  fits n e = lines-passed (pageTests s size) (length (linesOf s)) n e
 
-  pub page-unfilled : (x : Refusal) → NoPage x ≡ linesInSize s size → FillsPage Lines NoPage s before before (NoPage x)
-  page-unfilled x e =
-      first-refused (pageTests s size) (length (linesOf s)) x before ((NoPage x ≡ Lines (length (linesOf s))) × Filled s before before) e
+  pub has-places : (n : ℕ) → Lines n ≡ pageAnswer s size → length (linesOf s) ≤ size / 4
+  has-places n e = leb-true (length (linesOf s)) (size / 4) (fits n e .1 .0)
 
--- what is made of the answer is answered so
-pub fills-map : {R Q : Type 0} (told : ℕ → R) (refused : Refusal → R) (f : R → Q) (s before after : List ℕ) (r : R)
-    → FillsPage told refused s before after r → FillsPage (λ n. f (told n)) (λ x. f (refused x)) s before after (f r)
-fills-map told refused f s before after r h =
-    checked-on (λ x. (r ≡ refused x) × (after ≡ before)) (λ x. (f r ≡ f (refused x)) × (after ≡ before)) (pageTests s (length before))
-    (λ x k. (ap f (k .0), k .1)) (λ k. (ap f (k .0), k .1)) h
+  pub page-filled : (n : ℕ) (after : List ℕ) → Lines n ≡ pageAnswer s size → Filled s before after → FillsPage s before after
+  page-filled n after e done = rw (fits n e .0, fits n e .1 .0) done
+
+  pub page-unfilled : (x : Refusal) → NoPage x ≡ pageAnswer s size → FillsPage s before before
+  page-unfilled x e = first-refused (pageTests s size) (length (linesOf s)) x before (Filled s before before) e

@@ -103,20 +103,6 @@ both-checked [] if-refused if-answered h g = if-answered h g
 both-checked (x unless true ∷ ts) if-refused if-answered h g = both-checked ts if-refused if-answered h g
 both-checked (x unless false ∷ ts) if-refused if-answered h g = if-refused x h g
 
--- what is made of an answer is made of the refusals and of the answer behind them
-pub checked-map : {A B : Type 0} (f : A → B) (refused : Refusal → A) (answer : A) (ts : List Test)
-    → f (checked refused answer ts) ≡ checked (λ x. f (refused x)) (f answer) ts
-checked-map f refused answer [] = refl
-checked-map f refused answer (x unless true ∷ ts) = checked-map f refused answer ts
-checked-map f refused answer (x unless false ∷ ts) = refl
-
--- and what follows from a refusal and from an answer follows behind the same tests
-pub checked-on : (R S : Refusal → Type 0) {A B : Type 0} (ts : List Test) → ((x : Refusal) → R x → S x) → (A → B)
-    → checked R A ts → checked S B ts
-checked-on R S [] f g h = g h
-checked-on R S (x unless true ∷ ts) f g h = checked-on R S ts f g h
-checked-on R S (x unless false ∷ ts) f g h = f x h
-
 -- ---- days and refusals
 pub no-day : {A : Type 0} (x : Refusal) (n : ℕ) → NoDay x ≡ Day n → A
 no-day x n e = let z : _≡_ {A = ℕ} 0 1 = cc in absurd (omega arith)

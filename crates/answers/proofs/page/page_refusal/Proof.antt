@@ -1,19 +1,16 @@
-use mathlib.Core.Path.{sym, _∙_}
+use mathlib.Core.Path.{sym, _∙_, ap}
 use borrow.Author.Needs.{needs}
-use Rattle.answers.proofs.page.Laws.{refusal-of}
+use Rattle.answers.specs.Page.{pageRefusal}
 use Rattle.answers.proofs.page.page_refusal.Statement.{statement}
 use Rattle.answers.proofs.page.page_refusal.Tie as tie
 
 returns : tie.Need-returns
-returns c =
-    let a = c .before .before .before .before .args in
-    refusal-of (a .page .now) (a .size) _ (sym (c .enum-told .given .1) ∙ c .before .before .lines-in-size .ensures)
+returns c = ap pageRefusal (sym (c .enum-told .given .1) ∙ c .before .before .lines-in-size .ensures)
 
 returns-2 : tie.Need-returns-2
 returns-2 c =
-    let a = c .before .before .before .before .before .before .args in
     let refused = sym (c .before .before .refusal .given .1) ∙ c .before .before .before .before .lines-in-size .ensures in
-    c .refusal-number .ensures ∙ refusal-of (a .page .now) (a .size) _ refused
+    c .refusal-number .ensures ∙ ap pageRefusal refused
 
 pub page-refusal-spec : {M : Type 1} → statement M
 page-refusal-spec =
