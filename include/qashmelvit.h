@@ -22,8 +22,8 @@
  *     else
  *         found(answer, qv_part_start(line, length), qv_part_length(line, length));
  *
- * A call that fills places puts numbers into them, each of four bytes, low byte first. This reads number i of those from numbers on, where
- * the first is number 0:
+ * A call that fills places puts numbers into them, each of four bytes, low byte first. number_at(numbers, i) is number i, counted from 0, of
+ * those that start at numbers:
  *
  *     static uint32_t number_at(const uint8_t *numbers, size_t i)
  *     {
@@ -128,35 +128,37 @@ size_t qv_part_length(const uint8_t *line, size_t length);
 /*
  * How many lines the page has, each of which is answered in a place of its own; 0 where qv_page_refusal refuses, and then no byte is
  * changed.
- * A page without lines has 0 too, so that qv_page_refusal tells whether it is refused.
+ * A page without lines has 0 too; qv_page_refusal tells it from a refused one.
  *
- * The page is the length bytes from page on, at most 65,536. Its lines are joined by line feeds, which are no bytes of them; a last line
- * feed ends a line and opens none, and a page of no bytes has no lines. A blank line is a line of no bytes, and a carriage return is a byte
- * of its line.
+ * The page is the length bytes from page on; one of more than 65,536 bytes is refused. Its lines are joined by line feeds, which are no bytes
+ * of them; a last line feed ends a line and opens none, and a page of no bytes has no lines. A blank line is a line of no bytes, and a
+ * carriage return is a byte of its line. Where every line is ended by a line feed, the last too, no line is lost, though it be blank.
  *
  * A place is 4 bytes, and the size bytes from places on are size / 4 places, the whole part. The first line fills the first place, the
  * second the next, and so on, each with its day or refusal, as qv_line answers it for that line alone. Later places and bytes left over
- * stay as they are. A page has at most 65,536 lines, so that 262,144 bytes of places are always enough. With number_at of this file's
- * head:
+ * stay as they are. A page has at most 65,536 lines, so that 262,144 bytes of places are always enough. This prints the answers to a page of
+ * up to 500 lines, with number_at of this file's head, <stdio.h> and <string.h>:
  *
- *     const char *text = "easter 1225 J\n\n29.2 1900 G\n";
- *     const uint8_t *page = (const uint8_t *)text;
- *     size_t length = strlen(text);
- *     static uint8_t places[65536 * 4];
- *     size_t count = qv_page(page, length, places, sizeof places);
- *     uint32_t refusal = qv_page_refusal(page, length, sizeof places);
- *     if (refusal != 0)
- *         refused(refusal);
- *     for (size_t i = 0; i < count; i++) {
- *         uint32_t answer = number_at(places, i);
- *         if (answer < QV_FIRST_DAY)
- *             line_refused(i, answer);
- *         else
- *             line_found(i, answer);
+ *     static void print_page(const char *text)
+ *     {
+ *         const uint8_t *page = (const uint8_t *)text;
+ *         size_t length = strlen(text);
+ *         uint8_t places[500 * 4];
+ *         size_t count = qv_page(page, length, places, sizeof places);
+ *         uint32_t refusal = qv_page_refusal(page, length, sizeof places);
+ *         if (refusal != 0)
+ *             printf("page refused, %u\n", (unsigned)refusal);
+ *         for (size_t i = 0; i < count; i++) {
+ *             uint32_t answer = number_at(places, i);
+ *             if (answer < QV_FIRST_DAY)
+ *                 printf("line %zu refused, %u\n", i + 1, (unsigned)answer);
+ *             else
+ *                 printf("line %zu on day %u\n", i + 1, (unsigned)answer);
+ *         }
  *     }
  *
  * All bytes of the page must be readable, and all of the places readable and writable; a length or size of 0 goes with any pointer, NULL
- * too. The two must not overlap, and while the call runs, nothing else may use the places.
+ * too. The page and the places must not overlap, and while the call runs, nothing else may use the places or write to the page.
  *
  *     qv_page((const uint8_t *)"easter 1225 J\n\n29.2 1900 G\n", 27, places, sizeof places) == 3
  *     number_at(places, 0) == 2168578
@@ -164,14 +166,15 @@ size_t qv_part_length(const uint8_t *line, size_t length);
  *     number_at(places, 2) == QV_DATE
  *     qv_page((const uint8_t *)"easter 1225 J\r\n\n", 16, places, 11) == 2
  *     number_at(places, 0) == QV_FORM
+ *     number_at(places, 2) == QV_DATE
  *     qv_page((const uint8_t *)"easter 1225 J\n", 14, NULL, 0) == 0
  *     qv_page(NULL, 0, NULL, 0) == 0
  */
 size_t qv_page(const uint8_t *page, size_t length, uint8_t *places, size_t size);
 
 /*
- * Why qv_page refuses a page, which is passed as to it, where it is lent size bytes of places: QV_LENGTH for more than 65,536 bytes of the
- * page or for fewer places than lines; 0 where it does not refuse.
+ * Why qv_page refuses the page where size bytes of places are lent: QV_LENGTH for more than 65,536 bytes of the page or for fewer places
+ * than lines; 0 where it does not refuse.
  * Every size may be given.
  *
  *     qv_page_refusal((const uint8_t *)"easter 1225 J\n29.2 1900 G\n", 26, 8) == 0
@@ -272,7 +275,7 @@ int32_t qv_distance(uint64_t style1, uint64_t year1, uint64_t month1, uint64_t d
  *     }
  *
  * All bytes of the transcript must be readable, and all of the places readable and writable; a length or size of 0 goes with any pointer,
- * NULL too. The two must not overlap, and while the call runs, nothing else may use the places.
+ * NULL too. The text and the places must not overlap, and while the call runs, nothing else may use the places or write to the text.
  *
  *     qv_marks((const uint8_t *)"[[easter 1225 J]]", 17, places, sizeof places) == 1
  *     qv_marks((const uint8_t *)"[[easter 1225 J]]", 17, NULL, 0) == 0
