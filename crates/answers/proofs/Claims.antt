@@ -12,7 +12,8 @@ use Rattle.calendar.proofs.refusal.Laws.{both-checked}
 use Rattle.dating.proofs.Claims.{one-answer, one-text, line-numbers}
 use Rattle.places.proofs.Claims.{reads-back}
 use Rattle.places.proofs.Turn.{one-turn, turn-length, turn-at}
-use Rattle.answers.proofs.Lines.{lines-have, lines-known, lines-few, parted}
+use Rattle.answers.proofs.Lines.{lines-have, lines-known, parted}
+pub use Rattle.answers.proofs.Lines.{lines-few}
 use Rattle.answers.proofs.Walk.{line-feed}
 use Rattle.answers.proofs.block.Laws.{one-written, written-text}
 use Rattle.answers.proofs.block.Laws as laws
@@ -130,11 +131,7 @@ page-refused s size =
           ]
     ]
 
--- A page has at most a line for each byte.
-pub few-lines : (s : List ℕ) → length (linesOf s) ≤ length s
-few-lines s = lines-few s
-
--- So 262,144 bytes of places are enough for every page of at most 65,536 bytes.
+-- A page has at most a line for each byte (lines-few), so that 262,144 bytes of places are enough for every page of at most 65,536 bytes.
 pub always-enough : (s : List ℕ) (size : ℕ) → length s ≤ 65536 → 262144 ≤ size → pageRefusal (pageAnswer s size) ≡ 0
 always-enough s size short room = sym (ap pageRefusal (all-fit s size short (omega (arith, lines-few s))))
 

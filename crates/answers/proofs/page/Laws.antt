@@ -25,30 +25,29 @@ use Rattle.answers.specs.declared.page.PageAnswer.the-variants.{Lines, N
 
 -- ---- how many lines there are
 -- a line that lacks its line feed is one more
-pub line-count : (s : List ℕ) → length (linesOf s) ≡ length (endedLines [] s) + length (lastLine (openLine [] s))
+line-count : (s : List ℕ) → length (linesOf s) ≡ length (endedLines [] s) + length (lastLine (openLine [] s))
 line-count s = length-append (endedLines [] s) (lastLine (openLine [] s))
 
 -- the lines that end in the first i bytes are counted
 pub record Counted (s : List ℕ) (count i : ℕ) : Type 0 where
   pub lines : count ≡ length (endedLines [] (take i s))
   pub few : count ≤ i
-  pub inside : i ≤ length s
 
 pub count-first : (s : List ℕ) → Counted s 0 0
 unfolding endedLines
-count-first s = record { lines = refl; few = omega arith; inside = omega arith }
+count-first s = record { lines = refl; few = omega arith }
 
 module _ {s : List ℕ} {count i : ℕ} (p : Counted s count i) (more : i < length s) where
   pub count-end : getD s i 0 ≡ lineFeed → Counted s (count + 1) (i + 1)
   count-end ends =
       let next = line-feed (take i s) (getD s i 0) ends in
       let one = length-append (endedLines [] (take i s)) (openLine [] (take i s) ∷ []) in
-      record { lines = rw (one-more s i more, next .0) (omega (arith, p .lines)); few = omega (arith, p .few); inside = omega arith }
+      record { lines = rw (one-more s i more, next .0) (omega (arith, p .lines)); few = omega (arith, p .few) }
 
   pub count-byte : (getD s i 0 ≡ lineFeed → ⊥) → Counted s count (i + 1)
   count-byte other =
       let next = no-line-feed (take i s) (getD s i 0) other in
-      record { lines = rw (one-more s i more, next .0) (p .lines); few = omega (arith, p .few); inside = omega arith }
+      record { lines = rw (one-more s i more, next .0) (p .lines); few = omega (arith, p .few) }
 
 pub no-lines : (s : List ℕ) → length s ≡ 0 → length (linesOf s) ≡ 0
 unfolding endedLines openLine
@@ -184,10 +183,7 @@ module _ (s before : List ℕ) where
   abbrev size : ℕ
   size = length before
 
-  abbrev Fits : Type 0
-  Fits = AllPass (pageTests s size)
-
-  fits : (n : ℕ) → Lines n ≡ pageAnswer s size → Fits
+  fits : (n : ℕ) → Lines n ≡ pageAnswer s size → AllPass (pageTests s size)
   fits n e = lines-passed (pageTests s size) (length (linesOf s)) n e
 
   pub has-places : (n : ℕ) → Lines n ≡ pageAnswer s size → length (linesOf s) ≤ size / 4
