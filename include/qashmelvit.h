@@ -64,7 +64,8 @@
  *
  * Advent is the Sunday from 27 November to 3 December.
  *
- * The last indented lines above each call are examples, expressions that hold one after the other.
+ * The last indented lines above each call are examples, expressions that hold one after the other; those that name places have
+ * "static uint8_t places[40];" before them.
  */
 #ifndef QASHMELVIT_H
 #define QASHMELVIT_H
@@ -132,12 +133,12 @@ size_t qv_part_length(const uint8_t *line, size_t length);
  *
  * The page is the length bytes from page on; one of more than 65,536 bytes is refused. Its lines are joined by line feeds, which are no bytes
  * of them; a last line feed ends a line and opens none, and a page of no bytes has no lines. A blank line is a line of no bytes, and a
- * carriage return is a byte of its line. Where every line is ended by a line feed, the last too, no line is lost, though it be blank.
+ * carriage return is a byte of its line. A blank last line counts only where a line feed ends it, so end every line by one, the last too.
  *
  * A place is 4 bytes, and the size bytes from places on are size / 4 places, the whole part. The first line fills the first place, the
  * second the next, and so on, each with its day or refusal, as qv_line answers it for that line alone. Later places and bytes left over
- * stay as they are. A page has at most 65,536 lines, so that 262,144 bytes of places are always enough. This prints the answers to a page of
- * up to 500 lines, with number_at of this file's head, <stdio.h> and <string.h>:
+ * stay as they are. A page that is not too long has at most 65,536 lines, so that 262,144 bytes of places are always enough. This prints the
+ * answers to a page of up to 500 lines, with number_at of this file's head, <stdio.h> and <string.h>:
  *
  *     static void print_page(const char *text)
  *     {
@@ -173,8 +174,8 @@ size_t qv_part_length(const uint8_t *line, size_t length);
 size_t qv_page(const uint8_t *page, size_t length, uint8_t *places, size_t size);
 
 /*
- * Why qv_page refuses the page where size bytes of places are lent: QV_LENGTH for more than 65,536 bytes of the page or for fewer places
- * than lines; 0 where it does not refuse.
+ * Why qv_page refuses a page, which is passed as to it, where size bytes of places are lent: QV_LENGTH for more than 65,536 bytes of the
+ * page or for fewer places than lines; 0 where it does not refuse.
  * Every size may be given.
  *
  *     qv_page_refusal((const uint8_t *)"easter 1225 J\n29.2 1900 G\n", 26, 8) == 0

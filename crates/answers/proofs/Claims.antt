@@ -144,7 +144,7 @@ pub blank-line : (s : List ℕ) → linesOf (lineFeed ∷ s) ≡ [] ∷ linesOf 
 unfolding endedLines openLine
 blank-line s = refl
 
--- Lines that are each ended by a line feed are the lines of the page that they make, blank ones too.
+-- Lines without a line feed in them, each ended by one, are the lines of the page that they make, blank ones too.
 pub each-ended : (ls : List (List ℕ)) → AllLack ls → linesOf (eachEnded ls) ≡ ls
 each-ended ls h = sym (lines-known (go ls h))
   where

@@ -1,4 +1,4 @@
--- A walk over bytes that puts what is told of each line where the line ends.
+-- A walk over bytes, in which what is told of a line is put when the line ends.
 use mathlib.Core.List.{List, [], _∷_, _++_, append-nil}
 use mathlib.Core.Path.{_≡_, refl, sym, _∙_, ap}
 use Prim.Native.Nat.{ℕ, suc, _+_, _-_, _<_, _≤_}

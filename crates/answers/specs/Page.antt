@@ -22,7 +22,7 @@ pageTests s size = Length unless leb (length s) 65536 ∷ Length unless leb (len
 abbrev pub pageAnswer : List ℕ → (size : ℕ) → PageAnswer
 pageAnswer s size = checked NoPage (Lines (length (linesOf s))) (pageTests s size)
 
--- the bytes t are the place of the line l: "the day, or the refusal number", "low byte first"
+-- t are the bytes in the place of the line l: "the day, or the refusal number", "low byte first"
 abbrev pub IsPlace : (l t : List ℕ) → Type 0
 IsPlace l t = (n : ℕ) × (IsNumberOfLine l n × (t ≡ numberBytes n))
 

@@ -60,7 +60,7 @@ fn fill_places(page: &[u8], places: &mut [u8])
     }
 }
 
-// The number of lines that a page has where size bytes of places are lent: refused by 2.
+// How many lines a page has, or its refusal, 2, where size bytes of places are lent.
 fn lines_in_size(page: &[u8], size: usize) -> PageAnswer
     ensures { λ r. ⌜ r ≡ pageAnswer (now (page .entry)) size ⌝ }
 {
@@ -74,7 +74,7 @@ fn lines_in_size(page: &[u8], size: usize) -> PageAnswer
     PageAnswer::Lines(count)
 }
 
-// Puts the day or refusal of each line of a page in a place of its own, and answers the number of lines: refused by 2.
+// Puts the day or refusal of each line of a page in a place of its own, and answers the number of lines; or refuses by 2 and puts nothing.
 pub fn fill_page(page: &[u8], places: &mut [u8]) -> PageAnswer
     ensures { λ r. ⌜ (r ≡ pageAnswer (now (page .entry)) (length (now (places .entry)))) × FillsPage (now (page .entry)) (now (places .entry)) (now (places .exit)) ⌝ }
 {
