@@ -76,7 +76,8 @@ fn lines_in_size(page: &[u8], size: usize) -> PageAnswer
 
 // Puts the day or refusal of each line of a page in a place of its own, and answers the number of lines; or refuses by 2 and puts nothing.
 pub fn fill_page(page: &[u8], places: &mut [u8]) -> PageAnswer
-    ensures { λ r. ⌜ (r ≡ pageAnswer (now (page .entry)) (length (now (places .entry)))) × FillsPage (now (page .entry)) (now (places .entry)) (now (places .exit)) ⌝ }
+    ensures { λ r. ⌜ r ≡ pageAnswer (now (page .entry)) (length (now (places .entry))) ⌝ }
+    ensures { λ _. ⌜ FillsPage (now (page .entry)) (now (places .entry)) (now (places .exit)) ⌝ }
 {
     match lines_in_size(page, places.len()) {
         PageAnswer::Lines(count) => {

@@ -58,7 +58,8 @@ pub extern "C" fn qv_part_length(line: &[u8]) -> usize
 // Puts the day or refusal of each line of a page in a place of its own, and answers how many lines there are; 0 where the page is refused.
 #[no_mangle]
 pub extern "C" fn qv_page(page: &[u8], places: &mut [u8]) -> usize
-    ensures { λ r. ⌜ (r ≡ linesOrZero (pageAnswer (now (page .entry)) (length (now (places .entry))))) × FillsPage (now (page .entry)) (now (places .entry)) (now (places .exit)) ⌝ }
+    ensures { λ r. ⌜ r ≡ linesOrZero (pageAnswer (now (page .entry)) (length (now (places .entry)))) ⌝ }
+    ensures { λ _. ⌜ FillsPage (now (page .entry)) (now (places .entry)) (now (places .exit)) ⌝ }
 {
     lines_or_zero(fill_page(page, places))
 }
