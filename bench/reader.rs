@@ -151,7 +151,7 @@ fn day(wrappers: &[u8], anchor: Anchor, year: u32, gregorian: bool) -> u32 {
             if day > LENGTHS[month as usize] && !(day == 29 && is_leap(year, gregorian)) {
                 return DATE;
             }
-            (day_of_place(place(day, month), year, gregorian), &STAY)
+            (day_of_place(place(day as i32, month), year, gregorian), &STAY)
         }
     };
     let (first, more) = if gregorian { GREGORIAN } else { JULIAN };

@@ -79,12 +79,12 @@ pub const HUNG: [(&str, i32); 23] = [
     ("corpus", 60),
 ];
 
-/// Feasts of a fixed day and month.
-pub const FIXED: [(&str, u32, u32); 24] = [
+/// Feasts of a fixed day and month; matthias is kept five days before 1 March.
+pub const FIXED: [(&str, i32, u32); 24] = [
     ("circumcision", 1, 1),
     ("epiphany", 6, 1),
     ("candlemas", 2, 2),
-    ("matthias", 24, 2),
+    ("matthias", 1 - 5, 3),
     ("annunciation", 25, 3),
     ("mark", 25, 4),
     ("philip", 1, 5),
@@ -130,9 +130,9 @@ const fn to_weekday(wanted: i32, least: i32, more: i32) -> Step {
 }
 
 /// The place of a date, by Zeller's (153 m + 2) / 5 for the days between 1 March and a month's first; 306 are those to the year's end.
-pub const fn place(day: u32, month: u32) -> Place {
-    let behind_february = (153 * ((month + 9) % 12) + 2) / 5 + day;
-    Place { early: month < 3, days: behind_february as i16 - 306 }
+pub const fn place(day: i32, month: u32) -> Place {
+    let behind_february = ((153 * ((month + 9) % 12) + 2) / 5) as i32 + day;
+    Place { early: month < 3, days: (behind_february - 306) as i16 }
 }
 
 /// The slot of the word at a text's start. Five bytes tell it, and of the sixth, where it is a letter, one bit, for matthias and matthew;

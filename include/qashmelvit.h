@@ -62,7 +62,8 @@
  *     11 cena          -3    23 corpus        60    35 laurence     10.8    47 christmas   25.12
  *     12 parasceve     -2    24 circumcision 1.1    36 assumption   15.8    48 advent
  *
- * Advent is the Sunday from 27 November to 3 December.
+ * Advent is the Sunday from 27 November to 3 December. In a leap year of the style matthias is kept on 25.2, since the old leap day was
+ * put in at 24 February; the date 24.2 is 24 February in every year.
  *
  * The last indented lines above each call are examples, expressions that hold one after the other; those that name places have
  * "static uint8_t places[40];" before them.
@@ -100,6 +101,8 @@ extern "C" {
  *
  *     qv_line((const uint8_t *)"tue after quasimodo 1587 G", 26) == 2300796
  *     qv_line((const uint8_t *)"tue after quasimodo 1587 J", 26) == 2300824
+ *     qv_line((const uint8_t *)"matthias 1900 J", 15) == 2415088
+ *     qv_line((const uint8_t *)"25.2 1900 J", 11) == 2415088
  *     qv_line((const uint8_t *)"29.2 1900 G", 11) == QV_DATE
  *     qv_line(NULL, 0) == QV_LENGTH
  */

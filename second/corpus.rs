@@ -33,7 +33,7 @@ const ENDS: [(i32, i32, &str); 4] =
     [(1, 1, ".1 1 J"), (31, -1, ".12 9999 J"), (15, 1, ".10 1582 G"), (31, -1, ".12 9999 G")];
 
 /// Every kind of line, in the order of printing.
-const KINDS: [fn(&mut Corpus); 36] = [
+const KINDS: [fn(&mut Corpus); 37] = [
     good,
     feasts,
     wrapped_feasts,
@@ -70,6 +70,7 @@ const KINDS: [fn(&mut Corpus); 36] = [
     blanks,
     no_anchor,
     random,
+    matthias,
 ];
 
 /// The lines in the order in which they came first.
@@ -556,6 +557,20 @@ fn random(corpus: &mut Corpus) {
         let line: Line = random_line(&mut numbers).into();
         let edit = numbers.below(4) == 0;
         corpus.add(if edit { random_edit(line, &mut numbers) } else { line });
+    }
+}
+
+/// Matthias and the dates about him, and every wrapper before him and before 24.2, in years that are leap in both styles, in one and in none.
+fn matthias(corpus: &mut Corpus) {
+    for year in [3, 4, 100, 1500, 1582, 1583, 1584, 1600, 1700, 1900, 2000, 2100, 9996, 9999] {
+        for style in STYLES {
+            for anchor in ["matthias", "23.2", "24.2", "25.2", "26.2", "28.2", "29.2", "1.3"] {
+                corpus.add(format!("{anchor} {year} {style}"));
+            }
+            for wrapper in wrappers() {
+                ["matthias", "24.2"].iter().for_each(|anchor| corpus.add(format!("{wrapper} {anchor} {year} {style}")));
+            }
+        }
     }
 }
 

@@ -1,6 +1,8 @@
 //! The 48 feasts. A moving one is told as the church year does, by the week counted from Easter week and the weekday in it, with
-//! Easter by Meeus's algorithms; a fixed one by its date, with Richards' algorithm for the day. The first Sunday of Advent is the
-//! fourth before Christmas: the last Sunday before 25 December, and three weeks earlier.
+//! Easter by Meeus's algorithms; a fixed one by its date, with Richards' algorithm for the day. The old leap day was put in at 24
+//! February (source document 003, "am 24. Februar als Schalttag", and 002, by which the letters change there), before the sixth day of
+//! the Romans' count towards 1 March, on which Matthias is kept: so he is counted back from 1 March, leap day or none. The first Sunday of
+//! Advent is the fourth before Christmas: the last Sunday before 25 December, and three weeks earlier.
 
 use crate::days::{Answer, Date, Style, day_of_date, in_span, style, unchecked_day, weekday};
 use crate::sheets::easter;
@@ -39,12 +41,12 @@ const MOVING: [(&str, i128, i128); 23] = [
     ("corpus", 8, THU),
 ];
 
-/// Word, month and day.
+/// Word, month and day of the month, where 0 is the day before the first.
 const FIXED: [(&str, i128, i128); 24] = [
     ("circumcision", 1, 1),
     ("epiphany", 1, 6),
     ("candlemas", 2, 2),
-    ("matthias", 2, 24),
+    ("matthias", 3, 1 - 5),
     ("annunciation", 3, 25),
     ("mark", 4, 25),
     ("philip", 5, 1),
@@ -86,16 +88,15 @@ pub fn day_of_feast(number: i128, feast: i128, year: i128) -> Answer<i128> {
     if !(1..=COUNT).contains(&feast) {
         return Err(1);
     }
-    let fixed = |month, day| day_of_date(number, &Date { year, month, day });
     // A year is served where its Christmas has a day.
-    fixed(12, 25)?;
+    day_of_date(number, &Date { year, month: 12, day: 25 })?;
     let place = feast as usize - 1;
     if let Some((_, week, weekday)) = MOVING.get(place) {
         let unserved = style == Style::G && year == 1582;
         return if unserved { Err(4) } else { in_span(style, easter(style, year) + 7 * week + weekday) };
     }
     match FIXED.get(place - MOVING.len()) {
-        Some(&(_, month, day)) => fixed(month, day),
+        Some(&(_, month, day)) => in_span(style, unchecked_day(style, &Date { year, month, day })),
         None => in_span(style, advent(style, year)),
     }
 }

@@ -217,7 +217,7 @@ struct feast {
     uint64_t day, month; /* for advent the first day on which it can fall */
 };
 
-enum { FEASTS = 48, EASTER = 13, ADVENT = 48 };
+enum { FEASTS = 48, EASTER = 13, MATTHIAS = 27, ADVENT = 48 };
 
 static const struct feast feasts[FEASTS] = {
     {"septuagesima", -63, 0, 0}, {"sexagesima", -56, 0, 0}, {"estomihi", -49, 0, 0}, {"ashes", -46, 0, 0},
@@ -246,7 +246,7 @@ static uint32_t wanted_feast(uint64_t style, uint64_t number, uint64_t year)
         return QV_YEAR;
     if (feast->month == 0)
         return qv_day(style, year, 3, 1) - 1 + (uint32_t)easter_in_march(style, year) + (uint32_t)feast->from_easter;
-    day = qv_day(style, year, feast->month, feast->day);
+    day = qv_day(style, year, feast->month, feast->day + (number == MATTHIAS && month_length(style, year, 2) == 29));
     if (number == ADVENT)
         while (day % 7 + 1 != 7)
             day++;

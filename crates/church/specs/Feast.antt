@@ -1,5 +1,5 @@
 -- Feasts, in the order of their numbers.
-use mathlib.Core.Bool.{Bool, true}
+use mathlib.Core.Bool.{Bool, true, cond}
 use mathlib.Core.List.{List, [], _∷_}
 use Prim.Native.Nat.{ℕ, suc, pred, _+_, _-_}
 use Prim.Native.String.{String}
@@ -12,7 +12,7 @@ use Rattle.calendar.specs.Search.{firstOf}
 use Rattle.calendar.specs.Span.{inSpan}
 use Rattle.calendar.specs.Style.{styleOf, inStyle}
 use Rattle.calendar.specs.Weekday.{sunday, fallsOn}
-use Rattle.calendar.specs.Year.{named, served}
+use Rattle.calendar.specs.Year.{named, leap, served}
 use Rattle.church.specs.Easter.{easter, hasEaster}
 use Rattle.calendar.specs.declared.refusal.Refusal.the-variants.{Name, Year, Date, Span}
 use Rattle.calendar.specs.declared.span.DayAnswer.the-variants.{Day, NoDay}
@@ -29,10 +29,11 @@ abbrev pub -_ : ℕ → ℤ
 abbrev pub +_ : ℕ → ℤ
 + n = pos n
 
--- when a feast is kept: so many "Days from Easter", on a day of a month, or as advent
+-- when a feast is kept: so many "Days from Easter", on a day of a month, on one in common years and on another in leap years of the style, or as advent
 pub data Rule : Type 0 where
   hung : ℤ → Rule
   on : (day month : ℕ) → Rule
+  commonLeap : (day month leapDay leapMonth : ℕ) → Rule
   advent : Rule
 
 -- a feast's word and its rule
@@ -43,7 +44,7 @@ pub data Feast : Type 0 where
 abbrev pub ruleOf : Feast → Rule
 ruleOf (word is r) = r
 
--- "Feast numbers 1 to 48 follow this order."
+-- "Feast numbers 1 to 48 follow this order."; of Matthias, "in a leap year the feast is kept on 25 February"
 abbrev pub feasts : List Feast
 feasts =
     "septuagesima" is hung (- 63)
@@ -72,7 +73,7 @@ feasts =
     ∷ "circumcision" is on 1 1
     ∷ "epiphany" is on 6 1
     ∷ "candlemas" is on 2 2
-    ∷ "matthias" is on 24 2
+    ∷ "matthias" is commonLeap 24 2 25 2
     ∷ "annunciation" is on 25 3
     ∷ "mark" is on 25 4
     ∷ "philip" is on 1 5
@@ -116,18 +117,21 @@ daysFrom (negsuc k) n = n - suc k
 abbrev pub servedFor : Rule → Style → ℕ → Bool
 servedFor (hung z) s y = hasEaster s y
 servedFor (on d m) s y = served s y
+servedFor (commonLeap d m d′ m′) s y = served s y
 servedFor advent s y = served s y
 
 -- whether a rule's date is one of the year: a day of a month may be none
 abbrev pub dateExists : Rule → Style → ℕ → Bool
 dateExists (hung z) s y = true
 dateExists (on d m) s y = isDate s y m d
+dateExists (commonLeap d m d′ m′) s y = cond (leap s y) (isDate s y m′ d′) (isDate s y m d)
 dateExists advent s y = true
 
 -- the day number of a rule
 abbrev pub ruleNumber : Rule → Style → ℕ → ℕ
 ruleNumber (hung z) s y = daysFrom z (easter s y)
 ruleNumber (on d m) s y = dayNumber s y m d
+ruleNumber (commonLeap d m d′ m′) s y = cond (leap s y) (dayNumber s y m′ d′) (dayNumber s y m d)
 ruleNumber advent s y = adventSunday s y
 
 -- the tests of a rule in the named year t

@@ -11,6 +11,7 @@ use calendar::style::style_of;
 use calendar::weekday::Side;
 use calendar::weekday::first_weekday;
 use calendar::year::NamedYear;
+use calendar::year::is_leap;
 ghost use mathlib.Core.Path.{_≡_};
 ghost use Prim.Native.Nat.{_≤_};
 ghost use Rattle.church.specs.Feast.{advent, rule, ruleDay, feastInYear, feastOfYear};
@@ -97,6 +98,34 @@ const FIXED_MONTHS: [u64; 24] = [
     12, // christmas
 ];
 
+// How many days later each is kept in a leap year.
+const LATER_IN_LEAP_YEARS: [u64; 24] = [
+    0, // circumcision
+    0, // epiphany
+    0, // candlemas
+    1, // matthias
+    0, // annunciation
+    0, // mark
+    0, // philip
+    0, // baptist
+    0, // peter
+    0, // magdalene
+    0, // james
+    0, // laurence
+    0, // assumption
+    0, // bartholomew
+    0, // matthew
+    0, // michael
+    0, // luke
+    0, // simon
+    0, // saints
+    0, // martin
+    0, // andrew
+    0, // nicholas
+    0, // thomas
+    0, // christmas
+];
+
 // The day of a feast that hangs on Easter.
 fn hung_on_easter(named: NamedYear, feast: u64) -> DayAnswer
     requires { ⌜ (1 ≤ feast) × (feast ≤ 23) ⌝ }
@@ -117,7 +146,12 @@ fn fixed_in_year(named: NamedYear, feast: u64) -> DayAnswer
     ensures { λ r. ⌜ r ≡ ruleDay named (rule feast) ⌝ }
 {
     let i = (feast - 24) as usize;
-    day_in_year(named, FIXED_MONTHS[i], FIXED_DAYS[i])
+    let later = if is_leap(named) {
+        LATER_IN_LEAP_YEARS[i]
+    } else {
+        0
+    };
+    day_in_year(named, FIXED_MONTHS[i], FIXED_DAYS[i] + later)
 }
 
 // Advent, the first Sunday after 26 November.

@@ -1,7 +1,7 @@
 -- The code's tables of feasts, and advent.
-use mathlib.Core.Bool.{Bool, true, false, _&&_}
+use mathlib.Core.Bool.{Bool, true, false, _&&_, cond}
 use mathlib.Core.List.{List, [], _∷_}
-use mathlib.Core.Path.{_≡_, refl}
+use mathlib.Core.Path.{_≡_, refl, sym, _∙_}
 use Prim.Native.Nat.{ℕ, suc, pred, _+_, _-_, _≤_, _<_}
 use native.Mathlib.Omega.{arith}
 use lib.Dec.{T, leb, eqb, leb→le, eqb→eq}
@@ -21,7 +21,8 @@ use Rattle.calendar.specs.Weekday.{weekday, sunday, firstWeekday}
 use Rattle.calendar.specs.Year.{named, leap, newYear, firstYear, served}
 use Rattle.church.proofs.easter.Laws.{easter-served, year-in-span, year-long, near, hung-in-span}
 use Rattle.church.specs.Easter.{easter, hasEaster}
-use Rattle.church.specs.Feast.{Rule, hung, on, advent, rule, adventSunday, daysFrom, servedFor, dateExists, ruleNumber, ruleDay, feastInYear}
+use Rattle.church.specs.Feast.{Rule, hung, on, commonLeap, advent, rule, adventSunday, daysFrom, servedFor, dateExists}
+use Rattle.church.specs.Feast.{ruleNumber, ruleDay, feastInYear}
 use Rattle.calendar.specs.declared.refusal.Refusal.the-variants.{Year}
 use Rattle.calendar.specs.declared.span.DayAnswer.the-variants.{Day, NoDay}
 use Rattle.calendar.specs.declared.span.DayAnswer.{DayAnswer}
@@ -30,7 +31,7 @@ use Rattle.calendar.specs.declared.style.Style.{Style}
 use Rattle.calendar.specs.declared.weekday.Side.the-variants.{After}
 use Rattle.calendar.specs.declared.year.NamedYear.{NamedYear}
 
--- the days from Easter with 63 added, the days and the months, as the code's tables have them
+-- the days from Easter with 63 added, the days, the months, and how many days later in leap years, as the code's tables have them
 abbrev pub fromEaster : List ℕ
 fromEaster =
     0 ∷ 7 ∷ 14 ∷ 17 ∷ 21 ∷ 28 ∷ 35 ∷ 42 ∷ 49 ∷ 56 ∷ 60 ∷ 61
@@ -45,10 +46,14 @@ abbrev pub fixedMonths : List ℕ
 fixedMonths =
     1 ∷ 1 ∷ 2 ∷ 2 ∷ 3 ∷ 4 ∷ 5 ∷ 6 ∷ 6 ∷ 7 ∷ 7 ∷ 8 ∷ 8 ∷ 8 ∷ 9 ∷ 9 ∷ 10 ∷ 10 ∷ 11 ∷ 11 ∷ 11 ∷ 12 ∷ 12 ∷ 12 ∷ []
 
+abbrev pub laterInLeapYears : List ℕ
+laterInLeapYears = 0 ∷ 0 ∷ 0 ∷ 1 ∷ 0 ∷ 0 ∷ 0 ∷ 0 ∷ 0 ∷ 0 ∷ 0 ∷ 0 ∷ 0 ∷ 0 ∷ 0 ∷ 0 ∷ 0 ∷ 0 ∷ 0 ∷ 0 ∷ 0 ∷ 0 ∷ 0 ∷ 0 ∷ []
+
 -- a rule is b less 63 days from Easter
 hung-as : Rule → ℕ → Bool
 hung-as (hung z) b = near z && eqb (daysFrom z 63) b
 hung-as (on d m) b = false
+hung-as (commonLeap d m d′ m′) b = false
 hung-as advent b = false
 
 hung-tested : (i : ℕ) → i < 23 → T (hung-as (rule (i + 1)) (getD fromEaster i 0))
@@ -69,6 +74,7 @@ hung-rule t (hung z) b h =
     let k = T-both (near z) (eqb (daysFrom z 63) b) h in
     rw (← eqb→eq (daysFrom z 63) b (k .1), ← from-63 z (easter (t .style) (t .year)) (k .0))
 hung-rule t (on d m) b h = absurd h
+hung-rule t (commonLeap d m d′ m′) b h = absurd h
 hung-rule t advent b h = absurd h
 
 pub hung-day : (t : NamedYear) (i : ℕ) → i < 23
@@ -82,26 +88,60 @@ pub from-easter-small : (i : ℕ) → i < 23 → getD fromEaster i 0 ≤ 123
 unfolding small-test
 from-easter-small i h = leb→le _ _ (below small-test 23 tt i h)
 
--- a rule is a date
-dated : Rule → ℕ → ℕ → Bool
-dated (hung z) d m = false
-dated (on d′ m′) d m = eqb d′ d && eqb m′ m
-dated advent d m = false
+-- of two dates, what is said of the one that counts is said by its day and month
+own-exists : (b : Bool) (s : Style) (y d m d′ m′ : ℕ) → cond b (isDate s y m′ d′) (isDate s y m d) ≡ isDate s y (cond b m′ m) (cond b d′ d)
+own-exists true s y d m d′ m′ = refl
+own-exists false s y d m d′ m′ = refl
 
-dated-tested : (i : ℕ) → i < 24 → T (dated (rule (i + 24)) (getD fixedDays i 0) (getD fixedMonths i 0))
+own-number : (b : Bool) (s : Style) (y d m d′ m′ : ℕ)
+    → cond b (dayNumber s y m′ d′) (dayNumber s y m d) ≡ dayNumber s y (cond b m′ m) (cond b d′ d)
+own-number true s y d m d′ m′ = refl
+own-number false s y d m d′ m′ = refl
+
+-- a rule is a date of a leap or of a common year
+dated : Bool → Rule → ℕ → ℕ → Bool
+dated b (hung z) d m = false
+dated b (on d′ m′) d m = eqb d′ d && eqb m′ m
+dated b (commonLeap d′ m′ d″ m″) d m = eqb (cond b d″ d′) d && eqb (cond b m″ m′) m
+dated b advent d m = false
+
+-- the day of the month that the code's tables give for a leap or for a common year
+abbrev pub fixedDay : Bool → ℕ → ℕ
+fixedDay b i = getD fixedDays i 0 + cond b (getD laterInLeapYears i 0) 0
+
+dated-tested : (b : Bool) (i : ℕ) → i < 24 → T (dated b (rule (i + 24)) (fixedDay b i) (getD fixedMonths i 0))
 unfolding dated
-dated-tested i h = below (λ i. dated (rule (i + 24)) (getD fixedDays i 0) (getD fixedMonths i 0)) 24 tt i h
+dated-tested b i h = of-both (λ b i. dated b (rule (i + 24)) (fixedDay b i) (getD fixedMonths i 0)) 24 tt b i h
 
-dated-rule : (t : NamedYear) (r : Rule) (d m : ℕ) → T (dated r d m) → ruleDay t r ≡ dayInYear t m d
+dated-rule : (t : NamedYear) (r : Rule) (d m : ℕ) → T (dated (leap (t .style) (t .year)) r d m) → ruleDay t r ≡ dayInYear t m d
 unfolding dated dayInYear
 dated-rule t (hung z) d m h = absurd h
 dated-rule t (on d′ m′) d m h =
     let b = T-both (eqb d′ d) (eqb m′ m) h in
     rw (eqb→eq d′ d (b .0), eqb→eq m′ m (b .1))
+dated-rule t (commonLeap d′ m′ d″ m″) d m h =
+    let l = leap (t .style) (t .year) in
+    let b = T-both (eqb (cond l d″ d′) d) (eqb (cond l m″ m′) m) h in
+    rw (
+      own-exists l (t .style) (t .year) d′ m′ d″ m″,
+      own-number l (t .style) (t .year) d′ m′ d″ m″,
+      eqb→eq (cond l d″ d′) d (b .0),
+      eqb→eq (cond l m″ m′) m (b .1),
+    )
 dated-rule t advent d m h = absurd h
 
-pub fixed-day : (t : NamedYear) (i : ℕ) → i < 24 → ruleDay t (rule (i + 24)) ≡ dayInYear t (getD fixedMonths i 0) (getD fixedDays i 0)
-fixed-day t i h = dated-rule t (rule (i + 24)) (getD fixedDays i 0) (getD fixedMonths i 0) (dated-tested i h)
+pub fixed-day : (t : NamedYear) (i : ℕ) → i < 24
+    → ruleDay t (rule (i + 24)) ≡ dayInYear t (getD fixedMonths i 0) (fixedDay (leap (t .style) (t .year)) i)
+fixed-day t i h =
+    let l = leap (t .style) (t .year) in
+    dated-rule t (rule (i + 24)) (fixedDay l i) (getD fixedMonths i 0) (dated-tested l i h)
+
+small-day : Bool → ℕ → Bool
+small-day b i = leb (fixedDay b i) 31
+
+pub fixed-day-small : (b : Bool) (i : ℕ) → i < 24 → fixedDay b i ≤ 31
+unfolding small-day
+fixed-day-small b i h = leb→le _ _ (of-both small-day 24 tt b i h)
 
 -- a feast of the table is kept by its rule
 pub in-table : (t : NamedYear) (f : ℕ) → between 1 f 48 ≡ true → feastInYear t f ≡ ruleDay t (rule f)
@@ -159,10 +199,39 @@ advent-week s y =
     let w = week-long s y in
     (f .2, omega arith, omega arith)
 
+-- five days lie between Matthias and 1 March, whether or not the year is leap
+pub matthias-five : (s : Style) (y : ℕ) → ruleNumber (rule 27) s y + 5 ≡ dayNumber s y 3 1
+unfolding dayNumber daysOfMonths
+matthias-five s y = go (leap s y)
+  where
+    go : (b : Bool)
+        → cond b (newYear s y + daysOfMonths b 1 + 24) (newYear s y + daysOfMonths b 1 + 23) + 5 ≡ newYear s y + daysOfMonths b 2 + 0
+    go true = omega arith
+    go false = omega arith
+
+-- a rule has a date of its own for leap years only if it is Matthias's
+lone : Rule → ℕ → Bool
+lone (hung z) f = true
+lone (on d m) f = true
+lone (commonLeap d m d′ m′) f = eqb f 27
+lone advent f = true
+
+lone-tested : (f : ℕ) → between 1 f 48 ≡ true → T (lone (rule f) f)
+unfolding lone
+lone-tested f e =
+    let r = range 1 f 48 e in
+    let number : f - 1 + 1 ≡ f = omega arith in
+    rw number at (below (λ i. lone (rule (i + 1)) (i + 1)) 48 tt (f - 1) (omega arith))
+
+pub only-matthias : (f d m d′ m′ : ℕ) → between 1 f 48 ≡ true → rule f ≡ commonLeap d m d′ m′ → f ≡ 27
+unfolding lone
+only-matthias f d m d′ m′ e k = eqb→eq f 27 (rw k at (lone-tested f e))
+
 -- what the table's rules keep to: days near Easter, and dates that every year has
 good : Bool → Rule → Bool
 good b (hung z) = near z
 good b (on d m) = between 1 m 12 && between 1 d (monthLength b m)
+good b (commonLeap d m d′ m′) = between 1 (cond b m′ m) 12 && between 1 (cond b d′ d) (monthLength b (cond b m′ m))
 good b advent = true
 
 rules-good : (b : Bool) (i : ℕ) → i < 48 → T (good b (rule (i + 1)))
@@ -179,6 +248,7 @@ date-exists : (r : Rule) (s : Style) (y : ℕ) → T (good (leap s y) r) → dat
 unfolding good isDate
 date-exists (hung z) s y g = refl
 date-exists (on d m) s y g = is-true (between 1 m 12 && between 1 d (monthLength (leap s y) m)) g
+date-exists (commonLeap d m d′ m′) s y g = own-exists (leap s y) s y d m d′ m′ ∙ is-true _ g
 date-exists advent s y g = refl
 
 -- Every feast has a date in every year, so that none is refused by 5.
@@ -202,16 +272,23 @@ advent-in-year s y h =
 rule-served : (r : Rule) (s : Style) (y : ℕ) → hasEaster s y ≡ true → servedFor r s y ≡ true
 rule-served (hung z) s y h = h
 rule-served (on d m) s y h = easter-served s y h
+rule-served (commonLeap d m d′ m′) s y h = easter-served s y h
 rule-served advent s y h = easter-served s y h
+
+dated-in-span : (s : Style) (y m d : ℕ) → hasEaster s y ≡ true → isDate s y m d ≡ true → inSpan s (dayNumber s y m d) ≡ true
+dated-in-span s y m d h e =
+    let one = served-small s y (easter-served s y h) .0 in
+    let year = year-of s (dayNumber s y m d) y m d (record { year = one; date = date-bounds s y m d e; number = refl }) in
+    year-in-span s y (dayNumber s y m d) h (year .from) (year .to)
 
 rule-in-span : (r : Rule) (s : Style) (y : ℕ) → hasEaster s y ≡ true → T (good (leap s y) r) → inSpan s (ruleNumber r s y) ≡ true
 unfolding good
 rule-in-span (hung z) s y h g = hung-in-span s y z h g
-rule-in-span (on d m) s y h g =
-    let b = date-bounds s y m d (date-exists (on d m) s y g) in
-    let one = served-small s y (easter-served s y h) .0 in
-    let year = year-of s (dayNumber s y m d) y m d (record { year = one; date = b; number = refl }) in
-    year-in-span s y (dayNumber s y m d) h (year .from) (year .to)
+rule-in-span (on d m) s y h g = dated-in-span s y m d h (date-exists (on d m) s y g)
+rule-in-span (commonLeap d m d′ m′) s y h g =
+    let l = leap s y in
+    let e = sym (own-exists l s y d m d′ m′) ∙ date-exists (commonLeap d m d′ m′) s y g in
+    rw (own-number l s y d m d′ m′) (dated-in-span s y (cond l m′ m) (cond l d′ d) h e)
 rule-in-span advent s y h g = advent-in-year s y h
 
 pub feast-answered : (s : Style) (y f : ℕ) → hasEaster s y ≡ true → between 1 f 48 ≡ true

@@ -1,20 +1,40 @@
+use mathlib.Core.Bool.{cond}
+use mathlib.Core.Logic.{⊎-elim}
 use mathlib.Core.Path.{_≡_, sym, _∙_}
 use Prim.Native.Nat.{_+_, _-_}
 use native.Mathlib.Omega.{arith}
+use lib.ListN.{getD}
 use borrow.Author.Needs.{needs}
-use Rattle.church.proofs.feast.Laws.{fixed-day}
+use Rattle.calendar.specs.Year.{leap}
+use Rattle.church.proofs.feast.Laws.{laterInLeapYears, fixed-day, fixed-day-small}
 use Rattle.church.proofs.feast.fixed_in_year.Statement.{statement}
 use Rattle.church.proofs.feast.fixed_in_year.Tie as tie
 
+-- how many days later, where the ways meet
+added : (c : tie.Joined1)
+    → let a = c .before .before .args in
+    c .if1 .later ≡ cond (leap (a .named .style) (a .named .year)) (getD laterInLeapYears (a .feast - 24) 0) 0
+added c =
+    let e = sym (c .before .is-leap .ensures) in
+    ⊎-elim (λ w. rw (e ∙ w .0 .taken) (w .1)) (λ w. rw (e ∙ w .0 .left) (w .1)) (c .if1 .came)
+
+add-day-in-year : tie.Need-add-day-in-year
+add-day-in-year c =
+    let start = c .before .before .before in
+    let t = start .args .named in
+    let small = fixed-day-small (leap (t .style) (t .year)) (start .args .feast - 24) (omega (arith, start .pre)) in
+    record { fits = omega (arith, small, added (c .before)) }
+
 returns : tie.Need-returns
 returns c =
-    let i = c .before .args .feast - 24 in
-    let f : i + 24 ≡ c .before .args .feast = omega (arith, c .before .pre) in
-    c .day-in-year .ensures ∙ sym (rw f at (fixed-day (c .before .args .named) i (omega (arith, c .before .pre))))
+    let start = c .before .before .before .before in
+    let i = start .args .feast - 24 in
+    let f : i + 24 ≡ start .args .feast = omega (arith, start .pre) in
+    rw (added (c .before .before)) at (c .day-in-year .ensures) ∙ sym (rw f at (fixed-day (start .args .named) i (omega (arith, start .pre))))
 
 pub fixed-in-year-spec : {M : Type 1} → statement M
 fixed-in-year-spec =
     tie.close
     (tie.spec
-    (λ c. search needs) (λ c. search needs) (λ c. search needs) (λ c. search needs) (λ c. search needs) (λ c κs. search needs)
-    returns)
+    (λ c. search needs) (λ c κs. search needs) (λ c. search needs) (λ c. search needs) (λ c. search needs) (λ c. search needs)
+    (λ c. search needs) (λ c. search needs) add-day-in-year (λ c κs. search needs) returns)
