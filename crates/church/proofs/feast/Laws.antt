@@ -2,7 +2,7 @@
 use mathlib.Core.Bool.{Bool, true, false, _&&_, cond}
 use mathlib.Core.List.{List, [], _∷_}
 use mathlib.Core.Path.{_≡_, refl, sym, _∙_}
-use Prim.Native.Nat.{ℕ, suc, pred, _+_, _-_, _≤_, _<_}
+use Prim.Native.Nat.{ℕ, suc, pred, _+_, _-_, _^_, _≤_, _<_}
 use native.Mathlib.Omega.{arith}
 use lib.Dec.{T, leb, eqb, leb→le, eqb→eq}
 use lib.IntN.{ℤ, pos, negsuc}
@@ -139,9 +139,9 @@ fixed-day t i h =
 small-day : Bool → ℕ → Bool
 small-day b i = leb (fixedDay b i) 31
 
-pub fixed-day-small : (b : Bool) (i : ℕ) → i < 24 → fixedDay b i ≤ 31
+pub fixed-day-fits : (b : Bool) (i : ℕ) → i < 24 → fixedDay b i < 2 ^ 64
 unfolding small-day
-fixed-day-small b i h = leb→le _ _ (of-both small-day 24 tt b i h)
+fixed-day-fits b i h = omega (arith, leb→le (fixedDay b i) 31 (of-both small-day 24 tt b i h))
 
 -- a feast of the table is kept by its rule
 pub in-table : (t : NamedYear) (f : ℕ) → between 1 f 48 ≡ true → feastInYear t f ≡ ruleDay t (rule f)

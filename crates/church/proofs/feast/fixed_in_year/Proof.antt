@@ -6,7 +6,7 @@ use native.Mathlib.Omega.{arith}
 use lib.ListN.{getD}
 use borrow.Author.Needs.{needs}
 use Rattle.calendar.specs.Year.{leap}
-use Rattle.church.proofs.feast.Laws.{laterInLeapYears, fixed-day, fixed-day-small}
+use Rattle.church.proofs.feast.Laws.{laterInLeapYears, fixed-day, fixed-day-fits}
 use Rattle.church.proofs.feast.fixed_in_year.Statement.{statement}
 use Rattle.church.proofs.feast.fixed_in_year.Tie as tie
 
@@ -15,15 +15,16 @@ added : (c : tie.Joined1)
     → let a = c .before .before .args in
     c .if1 .later ≡ cond (leap (a .named .style) (a .named .year)) (getD laterInLeapYears (a .feast - 24) 0) 0
 added c =
-    let e = sym (c .before .is-leap .ensures) in
+    let t = c .before .before .args .named in
+    let e : leap (t .style) (t .year) ≡ c .before .is-leap .result = sym (c .before .is-leap .ensures) in
     ⊎-elim (λ w. rw (e ∙ w .0 .taken) (w .1)) (λ w. rw (e ∙ w .0 .left) (w .1)) (c .if1 .came)
 
 add-day-in-year : tie.Need-add-day-in-year
 add-day-in-year c =
     let start = c .before .before .before in
     let t = start .args .named in
-    let small = fixed-day-small (leap (t .style) (t .year)) (start .args .feast - 24) (omega (arith, start .pre)) in
-    record { fits = omega (arith, small, added (c .before)) }
+    rw (added (c .before))
+    (record { fits = fixed-day-fits (leap (t .style) (t .year)) (start .args .feast - 24) (omega (arith, start .pre)) })
 
 returns : tie.Need-returns
 returns c =
