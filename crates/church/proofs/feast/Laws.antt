@@ -1,13 +1,13 @@
 -- The code's tables of feasts, and advent.
 use mathlib.Core.Bool.{Bool, true, false, _&&_, cond}
 use mathlib.Core.List.{List, [], _∷_}
-use mathlib.Core.Path.{_≡_, refl, sym, _∙_}
+use mathlib.Core.Path.{_≡_, refl, _∙_}
 use Prim.Native.Nat.{ℕ, suc, pred, _+_, _-_, _^_, _≤_, _<_}
 use native.Mathlib.Omega.{arith}
 use lib.Dec.{T, leb, eqb, leb→le, eqb→eq}
 use lib.IntN.{ℤ, pos, negsuc}
 use lib.ListN.{getD}
-use Rattle.calendar.proofs.Each.{below, of-both, T-both, is-true}
+use Rattle.calendar.proofs.Each.{each, below, of-both, T-both, is-true}
 use Rattle.calendar.proofs.date.Dates.{date-bounds, year-of}
 use Rattle.calendar.proofs.date.Laws.{answered}
 use Rattle.calendar.proofs.range.Laws.{range}
@@ -88,15 +88,10 @@ pub from-easter-small : (i : ℕ) → i < 23 → getD fromEaster i 0 ≤ 123
 unfolding small-test
 from-easter-small i h = leb→le _ _ (below small-test 23 tt i h)
 
--- of two dates, what is said of the one that counts is said by its day and month
-own-exists : (b : Bool) (s : Style) (y d m d′ m′ : ℕ) → cond b (isDate s y m′ d′) (isDate s y m d) ≡ isDate s y (cond b m′ m) (cond b d′ d)
-own-exists true s y d m d′ m′ = refl
-own-exists false s y d m d′ m′ = refl
-
-own-number : (b : Bool) (s : Style) (y d m d′ m′ : ℕ)
-    → cond b (dayNumber s y m′ d′) (dayNumber s y m d) ≡ dayNumber s y (cond b m′ m) (cond b d′ d)
-own-number true s y d m d′ m′ = refl
-own-number false s y d m d′ m′ = refl
+-- what is said of the one of two dates that counts is said of its month and day
+of-date : {A : Type 0} (f : ℕ → ℕ → A) (b : Bool) (d m d′ m′ : ℕ) → cond b (f m′ d′) (f m d) ≡ f (cond b m′ m) (cond b d′ d)
+of-date f true d m d′ m′ = refl
+of-date f false d m d′ m′ = refl
 
 -- a rule is a date of a leap or of a common year
 dated : Bool → Rule → ℕ → ℕ → Bool
@@ -120,14 +115,11 @@ dated-rule t (on d′ m′) d m h =
     let b = T-both (eqb d′ d) (eqb m′ m) h in
     rw (eqb→eq d′ d (b .0), eqb→eq m′ m (b .1))
 dated-rule t (commonLeap d′ m′ d″ m″) d m h =
-    let l = leap (t .style) (t .year) in
+    let s = t .style in
+    let y = t .year in
+    let l = leap s y in
     let b = T-both (eqb (cond l d″ d′) d) (eqb (cond l m″ m′) m) h in
-    rw (
-      own-exists l (t .style) (t .year) d′ m′ d″ m″,
-      own-number l (t .style) (t .year) d′ m′ d″ m″,
-      eqb→eq (cond l d″ d′) d (b .0),
-      eqb→eq (cond l m″ m′) m (b .1),
-    )
+    rw (of-date (isDate s y) l d′ m′ d″ m″, of-date (dayNumber s y) l d′ m′ d″ m″, eqb→eq _ d (b .0), eqb→eq _ m (b .1))
 dated-rule t advent d m h = absurd h
 
 pub fixed-day : (t : NamedYear) (i : ℕ) → i < 24
@@ -199,7 +191,7 @@ advent-week s y =
     let w = week-long s y in
     (f .2, omega arith, omega arith)
 
--- five days lie between Matthias and 1 March, whether or not the year is leap
+-- Matthias lies five days before 1 March, whether or not the year is leap
 pub matthias-five : (s : Style) (y : ℕ) → ruleNumber (rule 27) s y + 5 ≡ dayNumber s y 3 1
 unfolding dayNumber daysOfMonths
 matthias-five s y = go (leap s y)
@@ -209,6 +201,13 @@ matthias-five s y = go (leap s y)
     go true = omega arith
     go false = omega arith
 
+-- a test that antt computes at each feast's number, and what it says at one of them
+of-number : (p : ℕ → Bool) → T (each (λ i. p (i + 1)) 48) → (f : ℕ) → between 1 f 48 ≡ true → T (p f)
+of-number p t f e =
+    let r = range 1 f 48 e in
+    let number : f - 1 + 1 ≡ f = omega arith in
+    rw number at (below (λ i. p (i + 1)) 48 t (f - 1) (omega arith))
+
 -- a rule has a date of its own for leap years only if it is Matthias's
 lone : Rule → ℕ → Bool
 lone (hung z) f = true
@@ -216,16 +215,9 @@ lone (on d m) f = true
 lone (commonLeap d m d′ m′) f = eqb f 27
 lone advent f = true
 
-lone-tested : (f : ℕ) → between 1 f 48 ≡ true → T (lone (rule f) f)
-unfolding lone
-lone-tested f e =
-    let r = range 1 f 48 e in
-    let number : f - 1 + 1 ≡ f = omega arith in
-    rw number at (below (λ i. lone (rule (i + 1)) (i + 1)) 48 tt (f - 1) (omega arith))
-
 pub only-matthias : (f d m d′ m′ : ℕ) → between 1 f 48 ≡ true → rule f ≡ commonLeap d m d′ m′ → f ≡ 27
 unfolding lone
-only-matthias f d m d′ m′ e k = eqb→eq f 27 (rw k at (lone-tested f e))
+only-matthias f d m d′ m′ e k = eqb→eq f 27 (rw k at (of-number (λ f. lone (rule f) f) tt f e))
 
 -- what the table's rules keep to: days near Easter, and dates that every year has
 good : Bool → Rule → Bool
@@ -234,21 +226,16 @@ good b (on d m) = between 1 m 12 && between 1 d (monthLength b m)
 good b (commonLeap d m d′ m′) = between 1 (cond b m′ m) 12 && between 1 (cond b d′ d) (monthLength b (cond b m′ m))
 good b advent = true
 
-rules-good : (b : Bool) (i : ℕ) → i < 48 → T (good b (rule (i + 1)))
-unfolding good between
-rules-good b i h = of-both (λ b i. good b (rule (i + 1))) 48 tt b i h
-
 rule-good : (b : Bool) (f : ℕ) → between 1 f 48 ≡ true → T (good b (rule f))
-rule-good b f e =
-    let r = range 1 f 48 e in
-    let number : f - 1 + 1 ≡ f = omega arith in
-    rw number at (rules-good b (f - 1) (omega arith))
+unfolding good between
+rule-good true f e = of-number (λ f. good true (rule f)) tt f e
+rule-good false f e = of-number (λ f. good false (rule f)) tt f e
 
 date-exists : (r : Rule) (s : Style) (y : ℕ) → T (good (leap s y) r) → dateExists r s y ≡ true
 unfolding good isDate
 date-exists (hung z) s y g = refl
 date-exists (on d m) s y g = is-true (between 1 m 12 && between 1 d (monthLength (leap s y) m)) g
-date-exists (commonLeap d m d′ m′) s y g = own-exists (leap s y) s y d m d′ m′ ∙ is-true _ g
+date-exists (commonLeap d m d′ m′) s y g = of-date (isDate s y) (leap s y) d m d′ m′ ∙ is-true _ g
 date-exists advent s y g = refl
 
 -- Every feast has a date in every year, so that none is refused by 5.
@@ -282,13 +269,12 @@ dated-in-span s y m d h e =
     year-in-span s y (dayNumber s y m d) h (year .from) (year .to)
 
 rule-in-span : (r : Rule) (s : Style) (y : ℕ) → hasEaster s y ≡ true → T (good (leap s y) r) → inSpan s (ruleNumber r s y) ≡ true
-unfolding good
+unfolding good isDate
 rule-in-span (hung z) s y h g = hung-in-span s y z h g
 rule-in-span (on d m) s y h g = dated-in-span s y m d h (date-exists (on d m) s y g)
 rule-in-span (commonLeap d m d′ m′) s y h g =
     let l = leap s y in
-    let e = sym (own-exists l s y d m d′ m′) ∙ date-exists (commonLeap d m d′ m′) s y g in
-    rw (own-number l s y d m d′ m′) (dated-in-span s y (cond l m′ m) (cond l d′ d) h e)
+    rw (of-date (dayNumber s y) l d m d′ m′) (dated-in-span s y (cond l m′ m) (cond l d′ d) h (is-true _ g))
 rule-in-span advent s y h g = advent-in-year s y h
 
 pub feast-answered : (s : Style) (y f : ℕ) → hasEaster s y ≡ true → between 1 f 48 ≡ true
