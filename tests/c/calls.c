@@ -214,7 +214,7 @@ static uint64_t easter_in_march(uint64_t style, uint64_t year)
 struct feast {
     const char *word;
     int from_easter;     /* counts where the month is 0 */
-    uint64_t day, month; /* for advent the first day on which it can fall */
+    uint64_t day, month; /* for matthias those of common years, for advent the first day on which it can fall */
 };
 
 enum { FEASTS = 48, EASTER = 13, MATTHIAS = 27, ADVENT = 48 };

@@ -14,7 +14,7 @@ use Rattle.church.proofs.easter.Laws as easter-laws
 pub use Rattle.church.proofs.easter.Laws.{firstEaster, easter-years, limit-range, easter-in-span}
 use Rattle.church.proofs.epact.Laws as epact-laws
 use Rattle.church.proofs.feast.Laws as feast-laws
-pub use Rattle.church.proofs.feast.Laws.{feast-date-exists, matthias-five, only-matthias}
+pub use Rattle.church.proofs.feast.Laws.{feast-date-exists, matthias-before-march, only-matthias}
 use Rattle.church.proofs.letter.Laws as letter-laws
 pub use Rattle.church.proofs.sheet.Laws.{one-answer-in-year}
 use Rattle.calendar.specs.Date.{isDate, dayNumber}
@@ -27,7 +27,7 @@ use Rattle.calendar.specs.Year.{named, leap}
 use Rattle.church.specs.Column.{stands, luna}
 use Rattle.church.specs.Easter.{limit, march, easter, key, hasEaster, easterTests}
 use Rattle.church.specs.Epact.{golden, hundreds, gregorianSum, epact, arabic}
-use Rattle.church.specs.Feast.{_is_, commonLeap, feasts, feastOf, rule, adventSunday, ruleNumber, feastTests, feastInYear, feastOfYear}
+use Rattle.church.specs.Feast.{_is_, onOrInLeapYears, feasts, feastOf, rule, adventSunday, ruleNumber, feastTests, feastInYear, feastOfYear}
 use Rattle.church.specs.Letter.{letterOf, Part, first, second, inPart, SundayLetter}
 use Rattle.church.specs.Sheet.{IsSheetOf, IsSheetOfYear, sheetRefusal, yes, sheetNumbers}
 use Rattle.calendar.specs.declared.span.DayAnswer.the-variants.{Day, NoDay}
@@ -142,9 +142,9 @@ pub feast-answered : (s : Style) (y f : ℕ) → hasEaster s y ≡ true → betw
     → feastOfYear (styleNumber s) f y ≡ Day (ruleNumber (rule f) s y)
 feast-answered s y f h e = rw by-number (feast-laws.feast-answered s y f h e)
 
--- Matthias is kept on 24 February in common years and on 25 February in leap years: in every year five days before 1 March, which the Romans, who counted
--- both ends, called the sixth (`matthias-five`). No other feast has a date of its own for leap years (`only-matthias`).
-pub matthias : feastOf 27 ≡ "matthias" is commonLeap 24 2 25 2
+-- Feast 27 is Matthias, with a date for common years and one for leap years; no other feast has such a rule (`only-matthias`). In every year he lies five days
+-- before 1 March, on the sixth day where both ends are counted, as the Romans did (`matthias-before-march`).
+pub matthias : feastOf 27 ≡ "matthias" is onOrInLeapYears 24 2 25 2
 matthias = refl
 
 -- Advent is a Sunday from 27 November to 3 December, and the only one.

@@ -33,7 +33,7 @@ abbrev pub +_ : ℕ → ℤ
 pub data Rule : Type 0 where
   hung : ℤ → Rule
   on : (day month : ℕ) → Rule
-  commonLeap : (day month leapDay leapMonth : ℕ) → Rule
+  onOrInLeapYears : (day month leapDay leapMonth : ℕ) → Rule
   advent : Rule
 
 -- a feast's word and its rule
@@ -73,7 +73,7 @@ feasts =
     ∷ "circumcision" is on 1 1
     ∷ "epiphany" is on 6 1
     ∷ "candlemas" is on 2 2
-    ∷ "matthias" is commonLeap 24 2 25 2
+    ∷ "matthias" is onOrInLeapYears 24 2 25 2
     ∷ "annunciation" is on 25 3
     ∷ "mark" is on 25 4
     ∷ "philip" is on 1 5
@@ -117,21 +117,21 @@ daysFrom (negsuc k) n = n - suc k
 abbrev pub servedFor : Rule → Style → ℕ → Bool
 servedFor (hung z) s y = hasEaster s y
 servedFor (on d m) s y = served s y
-servedFor (commonLeap d m d′ m′) s y = served s y
+servedFor (onOrInLeapYears d m d′ m′) s y = served s y
 servedFor advent s y = served s y
 
 -- whether a rule's date is one of the year: a day of a month may be none
 abbrev pub dateExists : Rule → Style → ℕ → Bool
 dateExists (hung z) s y = true
 dateExists (on d m) s y = isDate s y m d
-dateExists (commonLeap d m d′ m′) s y = cond (leap s y) (isDate s y m′ d′) (isDate s y m d)
+dateExists (onOrInLeapYears d m d′ m′) s y = cond (leap s y) (isDate s y m′ d′) (isDate s y m d)
 dateExists advent s y = true
 
 -- the day number of a rule
 abbrev pub ruleNumber : Rule → Style → ℕ → ℕ
 ruleNumber (hung z) s y = daysFrom z (easter s y)
 ruleNumber (on d m) s y = dayNumber s y m d
-ruleNumber (commonLeap d m d′ m′) s y = cond (leap s y) (dayNumber s y m′ d′) (dayNumber s y m d)
+ruleNumber (onOrInLeapYears d m d′ m′) s y = cond (leap s y) (dayNumber s y m′ d′) (dayNumber s y m d)
 ruleNumber advent s y = adventSunday s y
 
 -- the tests of a rule in the named year t

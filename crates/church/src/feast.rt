@@ -98,7 +98,7 @@ const FIXED_MONTHS: [u64; 24] = [
     12, // christmas
 ];
 
-// How many days later each is kept in a leap year.
+// How many days later the feasts 24 to 47 are kept in a leap year.
 const LATER_IN_LEAP_YEARS: [u64; 24] = [
     0, // circumcision
     0, // epiphany

@@ -21,7 +21,7 @@ use Rattle.calendar.specs.Weekday.{weekday, sunday, firstWeekday}
 use Rattle.calendar.specs.Year.{named, leap, newYear, firstYear, served}
 use Rattle.church.proofs.easter.Laws.{easter-served, year-in-span, year-long, near, hung-in-span}
 use Rattle.church.specs.Easter.{easter, hasEaster}
-use Rattle.church.specs.Feast.{Rule, hung, on, commonLeap, advent, rule, adventSunday, daysFrom, servedFor, dateExists}
+use Rattle.church.specs.Feast.{Rule, hung, on, onOrInLeapYears, advent, rule, adventSunday, daysFrom, servedFor, dateExists}
 use Rattle.church.specs.Feast.{ruleNumber, ruleDay, feastInYear}
 use Rattle.calendar.specs.declared.refusal.Refusal.the-variants.{Year}
 use Rattle.calendar.specs.declared.span.DayAnswer.the-variants.{Day, NoDay}
@@ -47,13 +47,14 @@ fixedMonths =
     1 ∷ 1 ∷ 2 ∷ 2 ∷ 3 ∷ 4 ∷ 5 ∷ 6 ∷ 6 ∷ 7 ∷ 7 ∷ 8 ∷ 8 ∷ 8 ∷ 9 ∷ 9 ∷ 10 ∷ 10 ∷ 11 ∷ 11 ∷ 11 ∷ 12 ∷ 12 ∷ 12 ∷ []
 
 abbrev pub laterInLeapYears : List ℕ
-laterInLeapYears = 0 ∷ 0 ∷ 0 ∷ 1 ∷ 0 ∷ 0 ∷ 0 ∷ 0 ∷ 0 ∷ 0 ∷ 0 ∷ 0 ∷ 0 ∷ 0 ∷ 0 ∷ 0 ∷ 0 ∷ 0 ∷ 0 ∷ 0 ∷ 0 ∷ 0 ∷ 0 ∷ 0 ∷ []
+laterInLeapYears =
+    0 ∷ 0 ∷ 0 ∷ 1 ∷ 0 ∷ 0 ∷ 0 ∷ 0 ∷ 0 ∷ 0 ∷ 0 ∷ 0 ∷ 0 ∷ 0 ∷ 0 ∷ 0 ∷ 0 ∷ 0 ∷ 0 ∷ 0 ∷ 0 ∷ 0 ∷ 0 ∷ 0 ∷ []
 
 -- a rule is b less 63 days from Easter
 hung-as : Rule → ℕ → Bool
 hung-as (hung z) b = near z && eqb (daysFrom z 63) b
 hung-as (on d m) b = false
-hung-as (commonLeap d m d′ m′) b = false
+hung-as (onOrInLeapYears d m d′ m′) b = false
 hung-as advent b = false
 
 hung-tested : (i : ℕ) → i < 23 → T (hung-as (rule (i + 1)) (getD fromEaster i 0))
@@ -74,7 +75,7 @@ hung-rule t (hung z) b h =
     let k = T-both (near z) (eqb (daysFrom z 63) b) h in
     rw (← eqb→eq (daysFrom z 63) b (k .1), ← from-63 z (easter (t .style) (t .year)) (k .0))
 hung-rule t (on d m) b h = absurd h
-hung-rule t (commonLeap d m d′ m′) b h = absurd h
+hung-rule t (onOrInLeapYears d m d′ m′) b h = absurd h
 hung-rule t advent b h = absurd h
 
 pub hung-day : (t : NamedYear) (i : ℕ) → i < 23
@@ -97,16 +98,16 @@ of-date f false d m d′ m′ = refl
 dated : Bool → Rule → ℕ → ℕ → Bool
 dated b (hung z) d m = false
 dated b (on d′ m′) d m = eqb d′ d && eqb m′ m
-dated b (commonLeap d′ m′ d″ m″) d m = eqb (cond b d″ d′) d && eqb (cond b m″ m′) m
+dated b (onOrInLeapYears d′ m′ d″ m″) d m = eqb (cond b d″ d′) d && eqb (cond b m″ m′) m
 dated b advent d m = false
 
 -- the day of the month that the code's tables give for a leap or for a common year
-abbrev pub fixedDay : Bool → ℕ → ℕ
-fixedDay b i = getD fixedDays i 0 + cond b (getD laterInLeapYears i 0) 0
+abbrev pub dayOfMonth : Bool → ℕ → ℕ
+dayOfMonth b i = getD fixedDays i 0 + cond b (getD laterInLeapYears i 0) 0
 
-dated-tested : (b : Bool) (i : ℕ) → i < 24 → T (dated b (rule (i + 24)) (fixedDay b i) (getD fixedMonths i 0))
+dated-tested : (b : Bool) (i : ℕ) → i < 24 → T (dated b (rule (i + 24)) (dayOfMonth b i) (getD fixedMonths i 0))
 unfolding dated
-dated-tested b i h = of-both (λ b i. dated b (rule (i + 24)) (fixedDay b i) (getD fixedMonths i 0)) 24 tt b i h
+dated-tested b i h = of-both (λ b i. dated b (rule (i + 24)) (dayOfMonth b i) (getD fixedMonths i 0)) 24 tt b i h
 
 dated-rule : (t : NamedYear) (r : Rule) (d m : ℕ) → T (dated (leap (t .style) (t .year)) r d m) → ruleDay t r ≡ dayInYear t m d
 unfolding dated dayInYear
@@ -114,7 +115,7 @@ dated-rule t (hung z) d m h = absurd h
 dated-rule t (on d′ m′) d m h =
     let b = T-both (eqb d′ d) (eqb m′ m) h in
     rw (eqb→eq d′ d (b .0), eqb→eq m′ m (b .1))
-dated-rule t (commonLeap d′ m′ d″ m″) d m h =
+dated-rule t (onOrInLeapYears d′ m′ d″ m″) d m h =
     let s = t .style in
     let y = t .year in
     let l = leap s y in
@@ -123,17 +124,17 @@ dated-rule t (commonLeap d′ m′ d″ m″) d m h =
 dated-rule t advent d m h = absurd h
 
 pub fixed-day : (t : NamedYear) (i : ℕ) → i < 24
-    → ruleDay t (rule (i + 24)) ≡ dayInYear t (getD fixedMonths i 0) (fixedDay (leap (t .style) (t .year)) i)
+    → ruleDay t (rule (i + 24)) ≡ dayInYear t (getD fixedMonths i 0) (dayOfMonth (leap (t .style) (t .year)) i)
 fixed-day t i h =
     let l = leap (t .style) (t .year) in
-    dated-rule t (rule (i + 24)) (fixedDay l i) (getD fixedMonths i 0) (dated-tested l i h)
+    dated-rule t (rule (i + 24)) (dayOfMonth l i) (getD fixedMonths i 0) (dated-tested l i h)
 
 small-day : Bool → ℕ → Bool
-small-day b i = leb (fixedDay b i) 31
+small-day b i = leb (dayOfMonth b i) 31
 
-pub fixed-day-fits : (b : Bool) (i : ℕ) → i < 24 → fixedDay b i < 2 ^ 64
+pub day-of-month-fits : (b : Bool) (i : ℕ) → i < 24 → dayOfMonth b i < 2 ^ 64
 unfolding small-day
-fixed-day-fits b i h = omega (arith, leb→le (fixedDay b i) 31 (of-both small-day 24 tt b i h))
+day-of-month-fits b i h = omega (arith, leb→le (dayOfMonth b i) 31 (of-both small-day 24 tt b i h))
 
 -- a feast of the table is kept by its rule
 pub in-table : (t : NamedYear) (f : ℕ) → between 1 f 48 ≡ true → feastInYear t f ≡ ruleDay t (rule f)
@@ -192,9 +193,9 @@ advent-week s y =
     (f .2, omega arith, omega arith)
 
 -- Matthias lies five days before 1 March, whether or not the year is leap
-pub matthias-five : (s : Style) (y : ℕ) → ruleNumber (rule 27) s y + 5 ≡ dayNumber s y 3 1
+pub matthias-before-march : (s : Style) (y : ℕ) → ruleNumber (rule 27) s y + 5 ≡ dayNumber s y 3 1
 unfolding dayNumber daysOfMonths
-matthias-five s y = go (leap s y)
+matthias-before-march s y = go (leap s y)
   where
     go : (b : Bool)
         → cond b (newYear s y + daysOfMonths b 1 + 24) (newYear s y + daysOfMonths b 1 + 23) + 5 ≡ newYear s y + daysOfMonths b 2 + 0
@@ -208,22 +209,22 @@ of-number p t f e =
     let number : f - 1 + 1 ≡ f = omega arith in
     rw number at (below (λ i. p (i + 1)) 48 t (f - 1) (omega arith))
 
--- a rule has a date of its own for leap years only if it is Matthias's
-lone : Rule → ℕ → Bool
-lone (hung z) f = true
-lone (on d m) f = true
-lone (commonLeap d m d′ m′) f = eqb f 27
-lone advent f = true
+-- a rule with a date of its own for leap years is Matthias's
+none-but-matthias : Rule → ℕ → Bool
+none-but-matthias (hung z) f = true
+none-but-matthias (on d m) f = true
+none-but-matthias (onOrInLeapYears d m d′ m′) f = eqb f 27
+none-but-matthias advent f = true
 
-pub only-matthias : (f d m d′ m′ : ℕ) → between 1 f 48 ≡ true → rule f ≡ commonLeap d m d′ m′ → f ≡ 27
-unfolding lone
-only-matthias f d m d′ m′ e k = eqb→eq f 27 (rw k at (of-number (λ f. lone (rule f) f) tt f e))
+pub only-matthias : (f d m d′ m′ : ℕ) → between 1 f 48 ≡ true → rule f ≡ onOrInLeapYears d m d′ m′ → f ≡ 27
+unfolding none-but-matthias
+only-matthias f d m d′ m′ e k = eqb→eq f 27 (rw k at (of-number (λ f. none-but-matthias (rule f) f) tt f e))
 
--- what the table's rules keep to: days near Easter, and dates that every year has
+-- what the table's rules keep to: days near Easter, and dates that there are in a leap or in a common year
 good : Bool → Rule → Bool
 good b (hung z) = near z
 good b (on d m) = between 1 m 12 && between 1 d (monthLength b m)
-good b (commonLeap d m d′ m′) = between 1 (cond b m′ m) 12 && between 1 (cond b d′ d) (monthLength b (cond b m′ m))
+good b (onOrInLeapYears d m d′ m′) = between 1 (cond b m′ m) 12 && between 1 (cond b d′ d) (monthLength b (cond b m′ m))
 good b advent = true
 
 rule-good : (b : Bool) (f : ℕ) → between 1 f 48 ≡ true → T (good b (rule f))
@@ -235,7 +236,7 @@ date-exists : (r : Rule) (s : Style) (y : ℕ) → T (good (leap s y) r) → dat
 unfolding good isDate
 date-exists (hung z) s y g = refl
 date-exists (on d m) s y g = is-true (between 1 m 12 && between 1 d (monthLength (leap s y) m)) g
-date-exists (commonLeap d m d′ m′) s y g = of-date (isDate s y) (leap s y) d m d′ m′ ∙ is-true _ g
+date-exists (onOrInLeapYears d m d′ m′) s y g = of-date (isDate s y) (leap s y) d m d′ m′ ∙ is-true _ g
 date-exists advent s y g = refl
 
 -- Every feast has a date in every year, so that none is refused by 5.
@@ -259,7 +260,7 @@ advent-in-year s y h =
 rule-served : (r : Rule) (s : Style) (y : ℕ) → hasEaster s y ≡ true → servedFor r s y ≡ true
 rule-served (hung z) s y h = h
 rule-served (on d m) s y h = easter-served s y h
-rule-served (commonLeap d m d′ m′) s y h = easter-served s y h
+rule-served (onOrInLeapYears d m d′ m′) s y h = easter-served s y h
 rule-served advent s y h = easter-served s y h
 
 dated-in-span : (s : Style) (y m d : ℕ) → hasEaster s y ≡ true → isDate s y m d ≡ true → inSpan s (dayNumber s y m d) ≡ true
@@ -272,7 +273,7 @@ rule-in-span : (r : Rule) (s : Style) (y : ℕ) → hasEaster s y ≡ true → T
 unfolding good isDate
 rule-in-span (hung z) s y h g = hung-in-span s y z h g
 rule-in-span (on d m) s y h g = dated-in-span s y m d h (date-exists (on d m) s y g)
-rule-in-span (commonLeap d m d′ m′) s y h g =
+rule-in-span (onOrInLeapYears d m d′ m′) s y h g =
     let l = leap s y in
     rw (of-date (dayNumber s y) l d m d′ m′) (dated-in-span s y (cond l m′ m) (cond l d′ d) h (is-true _ g))
 rule-in-span advent s y h g = advent-in-year s y h

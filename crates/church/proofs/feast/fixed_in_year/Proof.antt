@@ -6,7 +6,7 @@ use native.Mathlib.Omega.{arith}
 use lib.ListN.{getD}
 use borrow.Author.Needs.{needs}
 use Rattle.calendar.specs.Year.{leap}
-use Rattle.church.proofs.feast.Laws.{laterInLeapYears, fixed-day, fixed-day-fits}
+use Rattle.church.proofs.feast.Laws.{laterInLeapYears, fixed-day, day-of-month-fits}
 use Rattle.church.proofs.feast.fixed_in_year.Statement.{statement}
 use Rattle.church.proofs.feast.fixed_in_year.Tie as tie
 
@@ -24,7 +24,7 @@ add-day-in-year c =
     let start = c .before .before .before in
     let t = start .args .named in
     rw (added (c .before))
-    (record { fits = fixed-day-fits (leap (t .style) (t .year)) (start .args .feast - 24) (omega (arith, start .pre)) })
+    (record { fits = day-of-month-fits (leap (t .style) (t .year)) (start .args .feast - 24) (omega (arith, start .pre)) })
 
 returns : tie.Need-returns
 returns c =
