@@ -1,8 +1,8 @@
 //! The 48 feasts. A moving one is told as the church year does, by the week counted from Easter week and the weekday in it, with
 //! Easter by Meeus's algorithms; a fixed one by its date, with Richards' algorithm for the day. Matthias is counted back from 1 March,
-//! the days from him to which are the same in every year: the old leap day was put in before him, at 24 February (source document 003,
-//! "am 24. Februar als Schalttag", and 002, where a leap year's second letter serves "vom 24. Februar ab"). The first Sunday of Advent
-//! is the fourth before Christmas: the last Sunday before 25 December, and three weeks earlier.
+//! five days in every year, since the old leap day was put in before him, at 24 February (source document 003, "am 24. Februar als
+//! Schalttag", and 002, where a leap year's second letter serves "vom 24. Februar ab"). The first Sunday of Advent is the fourth
+//! before Christmas: the last Sunday before 25 December, and three weeks earlier.
 
 use crate::days::{Answer, Date, Style, day_of_date, in_span, style, unchecked_day, weekday};
 use crate::sheets::easter;
