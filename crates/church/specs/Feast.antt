@@ -44,7 +44,8 @@ pub data Feast : Type 0 where
 abbrev pub ruleOf : Feast → Rule
 ruleOf (word is r) = r
 
--- "Feast numbers 1 to 48 follow this order."; of Matthias, "in a leap year the feast is kept on 25 February"
+-- "Feast numbers 1 to 48 follow this order."; of Matthias: "The old leap day was put in at 24 February (source documents 002 and 003), so in a leap year the
+-- feast is kept on 25 February."
 abbrev pub feasts : List Feast
 feasts =
     "septuagesima" is hung (- 63)

@@ -94,7 +94,7 @@ of-date : {A : Type 0} (f : ℕ → ℕ → A) (b : Bool) (d m d′ m′ : ℕ) 
 of-date f true d m d′ m′ = refl
 of-date f false d m d′ m′ = refl
 
--- a rule is a date of a leap or of a common year
+-- a rule is the day d of the month m, in leap years or in common ones
 dated : Bool → Rule → ℕ → ℕ → Bool
 dated b (hung z) d m = false
 dated b (on d′ m′) d m = eqb d′ d && eqb m′ m
