@@ -9,10 +9,13 @@ use lib.IntN.{ℤ, pos, _+ℤ_, _*ℤ_}
 use lib.ListN.{length}
 use Rattle.calendar.proofs.span.Laws.{span-small}
 use Rattle.calendar.proofs.style.Laws.{by-number, both-in, given-by-number, given-of-any}
+use Rattle.church.proofs.arithmetic.Laws as arithmetic-laws
+pub use Rattle.church.proofs.arithmetic.Laws.{brought-by-thirties}
 use Rattle.church.proofs.column.Laws.{walked}
 use Rattle.church.proofs.easter.Laws as easter-laws
 pub use Rattle.church.proofs.easter.Laws.{firstEaster, easter-years, limit-range, easter-in-span}
 use Rattle.church.proofs.epact.Laws as epact-laws
+pub use Rattle.church.proofs.epact.Laws.{epact-small}
 use Rattle.church.proofs.feast.Laws as feast-laws
 pub use Rattle.church.proofs.feast.Laws.{feast-date-exists, matthias-before-march, only-matthias}
 use Rattle.church.proofs.letter.Laws as letter-laws
@@ -24,6 +27,7 @@ use Rattle.calendar.specs.Span.{earliest, dayOrRefusal}
 use Rattle.calendar.specs.Style.{styleNumber, styleOf, byNumber}
 use Rattle.calendar.specs.Weekday.{weekday, sunday}
 use Rattle.calendar.specs.Year.{named, leap}
+use Rattle.church.specs.Arithmetic.{arithmeticLimit}
 use Rattle.church.specs.Column.{stands, luna}
 use Rattle.church.specs.Easter.{limit, march, easter, key, hasEaster, easterTests}
 use Rattle.church.specs.Epact.{golden, hundreds, gregorianSum, epact, arabic}
@@ -74,6 +78,10 @@ luna-found s y = (walked s y .low, walked s y .high, walked s y .there)
 pub one-luna : (s : Style) (y d : ℕ) → stands s (epact s y) (arabic s y) d ≡ true → d ≡ luna s y
 unfolding luna
 one-luna s y d h = walked s y .once d h
+
+-- The arithmetic and the month column give one limit; what the arithmetic brings into 21 to 50 differs by thirties (`brought-by-thirties`).
+pub one-limit : (s : Style) (y : ℕ) → arithmeticLimit s y ≡ limit s y
+one-limit = arithmetic-laws.one-limit
 
 -- The key lies from 1 to 35, and counts from 21 March to Easter.
 pub key-range : (s : Style) (y : ℕ) → (1 ≤ key s y) × (key s y ≤ 35) × (march s y 21 + key s y ≡ easter s y)

@@ -1,5 +1,7 @@
 // The limit and Easter.
-use crate::column::luna_one;
+use crate::arithmetic::gregorian_limit;
+use crate::arithmetic::julian_limit;
+use crate::epact::golden_number;
 use calendar::date::day_in_year;
 use calendar::refusal::Refusal;
 use calendar::span::DayAnswer;
@@ -23,7 +25,13 @@ pub(crate) const SUNDAY: u64 = 7;
 pub(crate) fn limit_of_year(named: NamedYear) -> u64
     ensures { λ r. ⌜ r ≡ limit (named .style) (named .year) ⌝ }
 {
-    luna_one(named) + 13
+    let style = named.style;
+    let golden_number = golden_number(named);
+    let b = 11 * golden_number % 30;
+    match style {
+        Style::Julian => julian_limit(b),
+        Style::Gregorian => gregorian_limit(golden_number, b, named.year / 100),
+    }
 }
 
 // Whether it is the year in which G begins.

@@ -19,7 +19,7 @@ less-case : (x y : ℕ) (t : Bool) → ltb x y ≡ t → by30 (cond t (negsuc (y
 less-case x y true e = omega (arith, ltb-true)
 less-case x y false e = omega (arith, ltb-false)
 
-less : (x y : ℕ) → by30 (subℕ x y) ≡ (x + 30 * y - y) % 30
+pub less : (x y : ℕ) → by30 (subℕ x y) ≡ (x + 30 * y - y) % 30
 less x y = less-case x y _ refl
 
 sum-case : (a b c : ℕ) (t : Bool) → ltb a c ≡ t → by30 (cond t (negsuc (c - suc a)) (pos (a - c)) +ℤ pos b) ≡ (a + 30 * c - c + b) % 30
@@ -45,7 +45,7 @@ by30-rest (negsuc n) =
     let whole : 30 * suc (n / 30) ≡ suc k = omega arith in
     (negsuc (n / 30), rw (whole, lt-ltb (29 - n % 30) (suc k) (omega arith)) (ap negsuc (omega arith)))
 
-by30-small : (z : ℤ) → by30 z ≤ 29
+pub by30-small : (z : ℤ) → by30 z ≤ 29
 by30-small (pos n) = omega arith
 by30-small (negsuc n) = omega arith
 

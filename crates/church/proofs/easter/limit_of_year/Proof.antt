@@ -1,16 +1,36 @@
+use Prim.Native.Nat.{_≤_}
 use native.Mathlib.Omega.{arith}
 use borrow.Author.Needs.{needs}
-use Rattle.church.proofs.column.Laws.{luna-range}
-use Rattle.church.specs.Easter.{limit}
+use Rattle.church.proofs.arithmetic.Laws.{one-limit}
+use Rattle.church.proofs.epact.Laws.{golden-range}
+use Rattle.church.specs.Arithmetic.{arithmeticLimit}
 use Rattle.church.proofs.easter.limit_of_year.Statement.{statement}
 use Rattle.church.proofs.easter.limit_of_year.Tie as tie
 
-add-result : tie.Need-add-result
-add-result c = rw (c .luna-one .ensures) (omega (arith, luna-range (c .before .args .named .style) (c .before .args .named .year)))
+mul-b : tie.Need-mul-b
+mul-b c = rw (c .golden-number .ensures) (omega (arith, golden-range (c .before .args .named .year)))
 
 returns : tie.Need-returns
-unfolding limit
-returns c = rw (c .luna-one .ensures)
+unfolding arithmeticLimit
+returns c =
+    let k = c .before .before .before in
+    let t = k .before .args .named in
+    rw (← one-limit (t .style) (t .year), c .julian-limit .ensures, k .golden-number .ensures, c .before .enum-told .given .1)
+
+returns-2 : tie.Need-returns-2
+unfolding arithmeticLimit
+returns-2 c =
+    let k = c .before .before .before .before in
+    let t = k .before .args .named in
+    rw (← one-limit (t .style) (t .year), c .gregorian-limit .ensures, k .golden-number .ensures, c .before .before .enum-told2 .given .1)
 
 pub limit-of-year-spec : {M : Type 1} → statement M
-limit-of-year-spec = tie.close (tie.spec (λ c κs. search needs) add-result returns)
+limit-of-year-spec =
+    tie.close
+    (tie.spec
+    (λ c κs. search needs)
+    mul-b
+    (λ c. search needs) (λ c κs. search needs)
+    (λ c. search needs) (λ c κs. search needs)
+    returns
+    returns-2)

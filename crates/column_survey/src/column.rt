@@ -1,11 +1,11 @@
-// The month column.
-use crate::epact::epact_number;
-use crate::epact::is_arabic;
+// The month column, as it is printed.
 use calendar::style::Style;
 use calendar::year::NamedYear;
+use church::sheet::YearSheet;
 ghost use mathlib.Core.Path.{_≡_};
 ghost use Prim.Native.Nat.{_≤_};
 ghost use Rattle.church.specs.Column.{stands, luna};
+ghost use Rattle.church.specs.Sheet.{IsSheet};
 
 // Whether an epact stands at a day of the column.
 fn stands_at(style: Style, epact: u64, arabic: bool, day: u64) -> bool
@@ -38,13 +38,14 @@ fn stands_at(style: Style, epact: u64, arabic: bool, day: u64) -> bool
     }
 }
 
-// Luna I: the day of the column, March run on past 31, at which the year's epact stands.
-pub(crate) fn luna_one(named: NamedYear) -> u64
+// Luna I: the day of the column, March run on past 31, at which the epact of the year's sheet stands.
+pub(crate) fn luna_one(named: NamedYear, sheet: YearSheet) -> u64
+    requires { ⌜ IsSheet (named .style) (named .year) sheet ⌝ }
     ensures { λ r. ⌜ r ≡ luna (named .style) (named .year) ⌝ }
 {
     let style = named.style;
-    let epact = epact_number(named);
-    let arabic = is_arabic(named, epact);
+    let epact = sheet.epact;
+    let arabic = sheet.arabic;
     let mut day = 8;
     let found = loop {
         if stands_at(style, epact, arabic, day) {

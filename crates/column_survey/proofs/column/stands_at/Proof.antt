@@ -3,10 +3,10 @@ use mathlib.Core.Path.{_≡_}
 use lib.Dec.{ltb, eqb}
 use borrow.Author.Needs.{needs}
 use borrow.Author.Tests.{lt-ltb, le-ltb, eq-eqb, ne-eqb}
-use Rattle.church.proofs.column.Laws.{agrees, agreed}
+use Rattle.column_survey.proofs.column.Laws.{agrees, agreed}
 use Rattle.church.specs.Column.{stands}
-use Rattle.church.proofs.column.stands_at.Statement.{statement}
-use Rattle.church.proofs.column.stands_at.Tie as tie
+use Rattle.column_survey.proofs.column.stands_at.Statement.{statement}
+use Rattle.column_survey.proofs.column.stands_at.Tie as tie
 
 column : (c : tie.Start)
     → agrees (c .args .style) (c .args .epact) (c .args .arabic) (c .args .day)
