@@ -80,6 +80,7 @@ fn expected(tables: &Tables, style: Style, year: i128) -> Told<Found> {
         great_circle(tables, &mut found)?;
     }
     sums(tables, &mut found)?;
+    equations(tables, &mut found)?;
     Ok(found)
 }
 
@@ -192,6 +193,26 @@ fn key_and_feasts(tables: &Tables, hundreds: i128, tens: i128, found: &mut Found
     if let Some(row) = row {
         found.tell(KEY, &row[4]);
         found.feasts(hundreds >= 15, &SCHRAM, &row[5..])?;
+    }
+    Ok(())
+}
+
+/// Document 001: the limit by the century's equation and the golden number, and the Easters that fall on a day replaced as limit.
+fn equations(tables: &Tables, found: &mut Found) -> Told<()> {
+    let century = if found.style == Style::J { "J".to_string() } else { (found.year / 100).to_string() };
+    let golden = (found.year % 19 + 1).to_string();
+    if let Some(equation) = tables.row("equation", |row| Ok(row[0] == century))? {
+        let fits = |row: &[String]| Ok(row[0] == equation[1] && row[1] == golden);
+        if let Some(row) = tables.row("limits", fits)? {
+            found.tell(LIMIT, number(bare(&row[2]))? - i128::from(row[2].starts_with('(')));
+        }
+        if let Some(row) = tables.row("replaced", fits)? {
+            found.tell(LIMIT, number(&row[2])? - 1);
+        }
+    }
+    let exception = if found.style == Style::J { None } else { tables.keyed("exception", found.year)? };
+    if let Some(row) = exception {
+        found.easter(number(&row[1])?);
     }
     Ok(())
 }

@@ -6,7 +6,7 @@ use std::cell::Cell;
 use std::collections::BTreeMap;
 
 /// The tables, and how many words their rows have.
-const TABLES: [(&str, usize); 15] = [
+const TABLES: [(&str, usize); 19] = [
     ("letters", 2),
     ("limit", 3),
     ("circle", 5),
@@ -22,6 +22,10 @@ const TABLES: [(&str, usize); 15] = [
     ("g-tens", 2),
     ("g-column", 2),
     ("feasts", 12),
+    ("equation", 2),
+    ("limits", 3),
+    ("replaced", 3),
+    ("exception", 2),
 ];
 
 /// A value, or what is wrong.
