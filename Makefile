@@ -1,5 +1,5 @@
 .POSIX:
-.PHONY: check tests answers lib bench install uninstall prefix kit
+.PHONY: check tests answers lib wasm bench install uninstall prefix kit
 .NOTPARALLEL:
 
 PREFIX = /usr/local
@@ -37,6 +37,10 @@ answers: kit
 # The archive for C programs, target/staticlib/libqashmelvit.a.
 lib: kit
 	rt staticlib qashmelvit
+
+# The build for browsers, target/wasm.
+wasm: kit
+	web/build
 
 # Times of the calls on transcripts and on pages, which are no part of the test.
 bench: kit
