@@ -23,6 +23,7 @@ tests: kit
 	tests/edits
 	tests/second
 	tests/c/run
+	tests/web/run
 	tests/script
 	tests/program
 	tests/marks
