@@ -44,17 +44,15 @@ export const FIRST_DAY = 1721424;
  *     { distance: number } | Refused} distance The second date's day less the first's.
  */
 
-// The bytes of the longest page or transcript, and of the places of a transcript with the most marks.
+// The bytes of the longest page or transcript, of the places of the most marks that one can have, and of a step in which a memory grows.
 const LONGEST = 65536;
 const PLACES = 16384 * 20;
+const STEP = 65536;
 
-// The bytes by which a memory grows.
-const GROWTH = 65536;
-
-// A number that is no style, feast, year, month or day, for all those that 64 bits do not hold.
+// A number that is no style, feast, year, month or day, for every one that 64 bits do not hold.
 const NONE = 2n ** 64n - 1n;
 
-// What marks the first byte of a character that has so many bytes more.
+// What the first byte of a character has beside its number, where so many bytes more follow.
 const FIRST_BYTE = [0x00, 0xc0, 0xe0, 0xf0];
 
 async function compiled(source) {
@@ -75,49 +73,29 @@ async function compiled(source) {
 
 function numberOf(value) {
     if (typeof value !== 'number' && typeof value !== 'bigint') {
-        throw new TypeError(`a Number or a BigInt is wanted, and not: ${typeof value}`);
+        throw new TypeError(`wanted a Number or a BigInt, got: ${typeof value}`);
     }
     const number = typeof value === 'bigint' || Number.isInteger(value) ? BigInt(value) : NONE;
     return number >= 0n && number <= NONE ? number : NONE;
 }
 
-// Puts the string's UTF-8 into the bytes, until there are more than the longest text has, and answers how many they are. A surrogate that stands alone has
-// no UTF-8, and becomes the three bytes that its number would have, which the library refuses.
-function putString(string, bytes) {
-    let count = 0;
-    for (const character of string) {
-        if (count > LONGEST) {
-            break;
-        }
+// The bytes of a text. A surrogate that stands alone has no UTF-8, and gives the three bytes that its number would have, which the library refuses.
+function* bytesOf(text) {
+    if (ArrayBuffer.isView(text) && text[Symbol.toStringTag] === 'Uint8Array') {
+        return yield* text;
+    }
+    if (typeof text !== 'string') {
+        throw new TypeError(`wanted a string or a Uint8Array, got: ${typeof text}`);
+    }
+    for (const character of text) {
         const code = character.codePointAt(0);
         let more = code < 0x80 ? 0 : code < 0x800 ? 1 : code < 0x10000 ? 2 : 3;
-        bytes[count++] = FIRST_BYTE[more] | code >> 6 * more;
+        yield FIRST_BYTE[more] | code >> 6 * more;
         while (more > 0) {
             more--;
-            bytes[count++] = 0x80 | code >> 6 * more & 0x3f;
+            yield 0x80 | code >> 6 * more & 0x3f;
         }
     }
-    return count;
-}
-
-// Puts the array's bytes into the bytes, no more than make the longest text too long, and answers how many they are.
-function putArray(array, bytes) {
-    let count = 0;
-    while (count <= LONGEST && count < array.length) {
-        bytes[count] = array[count];
-        count++;
-    }
-    return count;
-}
-
-function putText(text, bytes) {
-    if (typeof text === 'string') {
-        return putString(text, bytes);
-    }
-    if (ArrayBuffer.isView(text) && text[Symbol.toStringTag] === 'Uint8Array') {
-        return putArray(text, bytes);
-    }
-    throw new TypeError(`a string or a Uint8Array is wanted, and not: ${typeof text}`);
 }
 
 // A function that tells where in the string a character stands; it is asked for them in their order.
@@ -150,15 +128,24 @@ function unlessRefused(refusal, answer) {
 export async function load(source = new URL('qashmelvit.wasm', import.meta.url)) {
     const { exports: library } = await WebAssembly.instantiate(await compiled(await source));
 
-    // The memory grows here and never again: by the places, and by room for a text that is longer than the longest by a character.
-    const places = library.memory.grow(Math.ceil((PLACES + LONGEST + 4) / GROWTH)) * GROWTH;
-    const start = places + PLACES;
-    const bytes = new Uint8Array(library.memory.buffer, start);
+    // The memory grows here and never again: by the places, and by the bytes of a text up to the first that makes it too long.
+    const places = library.memory.grow(Math.ceil((PLACES + LONGEST + 1) / STEP)) * STEP;
+    const texts = places + PLACES;
+    const bytes = new Uint8Array(library.memory.buffer, texts, LONGEST + 1);
     const numbers = new DataView(library.memory.buffer, places, PLACES);
     const size = BigInt(PLACES);
 
     // What the library is lent of a text: where it starts, and how many bytes it has.
-    const lend = (text) => [start, BigInt(putText(text, bytes))];
+    function lend(text) {
+        let count = 0;
+        for (const byte of bytesOf(text)) {
+            bytes[count++] = byte;
+            if (count > LONGEST) {
+                break;
+            }
+        }
+        return [texts, BigInt(count)];
+    }
 
     // The places, each of so many numbers, that the call fills.
     function filled(call, lent, count) {
