@@ -82,7 +82,8 @@ function numberOf(value) {
 // The bytes of a text. A surrogate that stands alone has no UTF-8, and gives the three bytes that its number would have, which the library refuses.
 function* bytesOf(text) {
     if (ArrayBuffer.isView(text) && text[Symbol.toStringTag] === 'Uint8Array') {
-        return yield* text;
+        yield* text;
+        return;
     }
     if (typeof text !== 'string') {
         throw new TypeError(`wanted a string or a Uint8Array, got: ${typeof text}`);
