@@ -79,24 +79,29 @@ function numberOf(value) {
     return number >= 0n && number <= NONE ? number : NONE;
 }
 
-// The bytes of a text. A surrogate that stands alone has no UTF-8, and gives the three bytes that its number would have, which the library refuses.
-function* bytesOf(text) {
+// Puts the bytes of a text into the room, as far as it goes, and answers how many. A surrogate that stands alone has no UTF-8, and gives the three bytes
+// that its number would have, which the library refuses.
+function put(room, text) {
     if (ArrayBuffer.isView(text) && text[Symbol.toStringTag] === 'Uint8Array') {
-        yield* text;
-        return;
+        const part = text.subarray(0, room.length);
+        room.set(part);
+        return part.length;
     }
     if (typeof text !== 'string') {
         throw new TypeError(`wanted a string or a Uint8Array, got: ${typeof text}`);
     }
-    for (const character of text) {
-        const code = character.codePointAt(0);
+    let count = 0;
+    for (let place = 0; place < text.length && count < room.length; place++) {
+        const code = text.codePointAt(place);
         let more = code < 0x80 ? 0 : code < 0x800 ? 1 : code < 0x10000 ? 2 : 3;
-        yield FIRST_BYTE[more] | code >> 6 * more;
+        room[count++] = FIRST_BYTE[more] | code >> 6 * more;
         while (more > 0) {
             more--;
-            yield 0x80 | code >> 6 * more & 0x3f;
+            room[count++] = 0x80 | code >> 6 * more & 0x3f;
         }
+        place += code < 0x10000 ? 0 : 1;
     }
+    return Math.min(count, room.length);
 }
 
 // A function that tells where in the string a character stands; it is asked for them in their order.
@@ -138,14 +143,7 @@ export async function load(source = new URL('qashmelvit.wasm', import.meta.url))
 
     // What the library is lent of a text: where it starts, and how many bytes it has.
     function lend(text) {
-        let count = 0;
-        for (const byte of bytesOf(text)) {
-            bytes[count++] = byte;
-            if (count > LONGEST) {
-                break;
-            }
-        }
-        return [texts, BigInt(count)];
+        return [texts, BigInt(put(bytes, text))];
     }
 
     // The places, each of so many numbers, that the call fills.
