@@ -55,6 +55,11 @@ const NONE = 2n ** 64n - 1n;
 // What the first byte of a character has beside its number, where so many bytes more follow.
 const FIRST_BYTE = [0x00, 0xc0, 0xe0, 0xf0];
 
+// What typed arrays tell of their kind and length, whatever one of them says of itself.
+const typedArrays = Object.getOwnPropertyDescriptors(Object.getPrototypeOf(Uint8Array.prototype));
+const kindOf = typedArrays[Symbol.toStringTag].get;
+const lengthOf = typedArrays.length.get;
+
 async function compiled(source) {
     if (source instanceof WebAssembly.Module) {
         return source;
@@ -79,17 +84,19 @@ function numberOf(value) {
     return number >= 0n && number <= NONE ? number : NONE;
 }
 
-// Puts the bytes of a text into the room, as far as it goes, and answers how many. A surrogate that stands alone has no UTF-8, and gives the three bytes
-// that its number would have, which the library refuses.
-function put(room, text) {
-    if (ArrayBuffer.isView(text) && text[Symbol.toStringTag] === 'Uint8Array') {
-        const part = text.subarray(0, room.length);
-        room.set(part);
-        return part.length;
+// Puts bytes into the room where they are not too many for it, which all calls refuse alike, and answers how many it then has.
+function putBytes(room, bytes) {
+    const length = lengthOf.call(bytes);
+    if (length >= room.length) {
+        return room.length;
     }
-    if (typeof text !== 'string') {
-        throw new TypeError(`wanted a string or a Uint8Array, got: ${typeof text}`);
-    }
+    room.set(bytes);
+    return length;
+}
+
+// Puts a string into the room as UTF-8, as far as that goes, and answers how many bytes; a surrogate that stands alone, which has no UTF-8, gives the three
+// bytes that its number would have, so that the library refuses it.
+function putString(room, text) {
     let count = 0;
     for (let place = 0; place < text.length && count < room.length; place++) {
         const code = text.codePointAt(place);
@@ -104,6 +111,16 @@ function put(room, text) {
     return Math.min(count, room.length);
 }
 
+function put(room, text) {
+    if (typeof text === 'string') {
+        return putString(room, text);
+    }
+    if (kindOf.call(text) !== 'Uint8Array') {
+        throw new TypeError(`wanted a string or a Uint8Array, got: ${typeof text}`);
+    }
+    return putBytes(room, text);
+}
+
 // A function that tells where in the string a character stands; it is asked for them in their order.
 function placesIn(string) {
     let place = 0;
@@ -116,14 +133,12 @@ function placesIn(string) {
     };
 }
 
-// WebAssembly answers every number of 32 bits as a signed one.
-function dayOrRefusal(answer) {
-    const number = answer >>> 0;
+function dayOrRefusal(number) {
     return number < FIRST_DAY ? { refusal: number } : { day: number };
 }
 
 function unlessRefused(refusal, answer) {
-    return refusal === 0 ? answer() : { refusal: refusal >>> 0 };
+    return refusal === 0 ? answer() : { refusal };
 }
 
 /**
@@ -132,13 +147,24 @@ function unlessRefused(refusal, answer) {
  * @returns {Promise<Readonly<Calls>>}
  */
 export async function load(source = new URL('qashmelvit.wasm', import.meta.url)) {
-    const { exports: library } = await WebAssembly.instantiate(await compiled(await source));
+    const { exports } = await WebAssembly.instantiate(await compiled(await source));
+    const { memory, __stack_pointer: stack, ...calls } = exports;
+
+    // A call that ends where JavaScript's own stack runs out does not put the library's back, so that each begins with it whole.
+    const whole = stack.value;
+    const library = {};
+    for (const [name, call] of Object.entries(calls)) {
+        library[name] = (...lent) => {
+            stack.value = whole;
+            return call(...lent);
+        };
+    }
 
     // The memory grows here and never again: by the places, and by the bytes of a text up to the first that makes it too long.
-    const places = library.memory.grow(Math.ceil((PLACES + LONGEST + 1) / STEP)) * STEP;
+    const places = memory.grow(Math.ceil((PLACES + LONGEST + 1) / STEP)) * STEP;
     const texts = places + PLACES;
-    const bytes = new Uint8Array(library.memory.buffer, texts, LONGEST + 1);
-    const numbers = new DataView(library.memory.buffer, places, PLACES);
+    const bytes = new Uint8Array(memory.buffer, texts, LONGEST + 1);
+    const numbers = new DataView(memory.buffer, places, PLACES);
     const size = BigInt(PLACES);
 
     // What the library is lent of a text: where it starts, and how many bytes it has.
@@ -192,12 +218,12 @@ export async function load(source = new URL('qashmelvit.wasm', import.meta.url))
 
     function weekday(style, day) {
         const lent = [style, day].map(numberOf);
-        return unlessRefused(library.qv_weekday_refusal(...lent), () => ({ weekday: library.qv_weekday(...lent) >>> 0 }));
+        return unlessRefused(library.qv_weekday_refusal(...lent), () => ({ weekday: library.qv_weekday(...lent) }));
     }
 
     function distance(style1, year1, month1, day1, style2, year2, month2, day2) {
         const lent = [style1, year1, month1, day1, style2, year2, month2, day2].map(numberOf);
-        return unlessRefused(library.qv_distance_refusal(...lent), () => ({ distance: library.qv_distance(...lent) | 0 }));
+        return unlessRefused(library.qv_distance_refusal(...lent), () => ({ distance: library.qv_distance(...lent) }));
     }
 
     return Object.freeze({ line, page, marks, feast, day, weekday, distance });

@@ -1,5 +1,5 @@
-// Prints for standard input what the C program of the same name as the argument prints: lines, pages, marks or numbers. A text goes in as bytes and, where
-// it is UTF-8, as a string; a number as a BigInt and, where it is one, as a Number: the answers must be the same.
+// Prints for standard input what the C program of the same name as the argument prints, lines, pages, marks or numbers, where a text has the same answers as
+// bytes and, being UTF-8, as a string, and a number as a BigInt and as a Number.
 import assert from 'node:assert/strict';
 import { readFileSync } from 'node:fs';
 import { bytes as build, script } from './built.mjs';

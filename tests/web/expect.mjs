@@ -15,7 +15,10 @@ assert.deepEqual({ ...constants }, Object.fromEntries(defined));
 assert.deepEqual(WebAssembly.Module.imports(module), []);
 const exported = WebAssembly.Module.exports(module).map(({ kind, name }) => `${kind} ${name}`);
 const calls = [...new Set(header.match(/\bqv_[a-z_]+/g))].map((name) => `function ${name}`);
-assert.deepEqual(exported.sort(), [...calls, 'memory memory'].sort());
+assert.deepEqual(exported.sort(), [...calls, 'global __stack_pointer', 'memory memory'].sort());
+
+// Node 18 takes the script for a module by what stands beside it, where later ones see it by themselves.
+assert.deepEqual(JSON.parse(readFileSync(new URL('package.json', file), 'utf8')), { type: 'module' });
 
 // The memory of what was loaded last, which the script keeps to itself.
 let memory;
@@ -94,6 +97,35 @@ assert.deepEqual(line(runInNewContext('Uint8Array').from(Buffer.from(EASTER))), 
 const gone = new Uint8Array(Buffer.from(EASTER));
 structuredClone(gone, { transfer: [gone.buffer] });
 assert.throws(() => line(gone), TypeError);
+if ('resizable' in ArrayBuffer.prototype) {
+    const shrunk = new ArrayBuffer(13, { maxByteLength: 13 });
+    const views = [new Uint8Array(shrunk, 0, 13), new Uint8Array(shrunk, 6)];
+    shrunk.resize(3);
+    views.forEach((view) => assert.throws(() => line(view), TypeError));
+}
+
+// Bytes are what they are, whatever they say of themselves.
+class Odd extends Uint8Array {
+    static get [Symbol.species]() {
+        return Uint16Array;
+    }
+
+    get length() {
+        return 3;
+    }
+
+    get [Symbol.toStringTag]() {
+        return 'Odd';
+    }
+
+    subarray() {
+        return new Uint8Array(70000);
+    }
+}
+const wide = Uint16Array.from(Buffer.from(EASTER), (byte) => byte + 256);
+Object.defineProperty(wide, Symbol.toStringTag, { value: 'Uint8Array' });
+assert.deepEqual(line(Odd.from(Buffer.from(EASTER))), { ...easter, start: 0, length: 6 });
+assert.throws(() => line(wide), TypeError);
 assert.deepEqual([line(''), page(''), marks('')], [{ refusal: script.LENGTH }, { answers: [] }, { marks: [] }]);
 
 // Nothing is mended: a surrogate that stands alone is refused, and a byte order mark, a carriage return and a zero stay.
@@ -142,6 +174,28 @@ for (const [text, count] of [['x', 65536], ['é', 32768], ['😀', 16384]]) {
 }
 assert.deepEqual(line(EASTER), { ...easter, start: 0, length: 6 });
 assert.equal(memory.buffer.byteLength, room);
+
+// A call that ends where the stack of JavaScript runs out takes nothing from the later ones.
+function deep(call) {
+    try {
+        deep(call);
+    } catch {
+        // the stack of JavaScript has run out
+    }
+    try {
+        call();
+    } catch {
+        // and again
+    }
+}
+function deeper(more, call) {
+    return more > 0 ? deeper(more - 1, call) : deep(call);
+}
+for (let more = 0; more < 100; more++) {
+    deeper(more % 37, () => marks(letter));
+}
+assert.deepEqual(line(EASTER), { ...easter, start: 0, length: 6 });
+assert.equal(marks(letter).marks.length, 3);
 
 // An answer stays as it is when another call is made, of the same library or of another.
 const other = await load(module);
