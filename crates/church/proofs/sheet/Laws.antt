@@ -1,4 +1,4 @@
--- Two sheets that a contract allows are equal.
+-- Two sheets that a contract allows are equal, and one that is answered is its year's.
 use mathlib.Core.Bool.{Bool, true, false}
 use mathlib.Core.List.{[], _∷_}
 use mathlib.Core.Path.{_≡_, sym, _∙_, ap}
