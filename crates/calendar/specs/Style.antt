@@ -1,5 +1,5 @@
 -- The two styles.
-use mathlib.Core.Bool.{false, cond}
+use mathlib.Core.Bool.{Bool, true, false, cond}
 use mathlib.Core.List.{List, [], _∷_}
 use Prim.Native.Char.{code}
 use Prim.Native.Nat.{ℕ}
@@ -21,6 +21,11 @@ styleNumber Gregorian = 2
 abbrev pub styleLetter : Style → ℕ
 styleLetter Julian = code "J"
 styleLetter Gregorian = code "G"
+
+-- the style by whether it is the Gregorian one
+abbrev pub styleBy : Bool → Style
+styleBy true = Gregorian
+styleBy false = Julian
 
 -- refusal 1: "a style .. number given to a public call is not in its list"
 unfoldable pub styleOf : ℕ → StyleAnswer

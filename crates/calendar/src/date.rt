@@ -6,6 +6,8 @@ use crate::span::day_within;
 use crate::span::is_in_span;
 use crate::style::Style;
 use crate::style::StyleAnswer;
+use crate::style::is_gregorian;
+use crate::style::style_by;
 use crate::style::style_of;
 use crate::year::NamedYear;
 use crate::year::is_leap;
@@ -13,9 +15,10 @@ use crate::year::is_served;
 use crate::year::new_year;
 use crate::year::year_at;
 ghost use mathlib.Core.Path.{_≡_};
-ghost use mathlib.Core.Bool.{true};
+ghost use mathlib.Core.Bool.{true, false};
 ghost use Prim.Native.Nat.{pred, _≤_, _<_};
-ghost use Rattle.calendar.specs.Year.{served};
+ghost use Rattle.calendar.specs.Year.{named, served};
+ghost use Rattle.calendar.specs.Style.{styleBy};
 ghost use Rattle.calendar.specs.Date.{monthLength, daysOfMonths, MonthOf, isDate, dayNumber, dayInYear, dayOfDate, IsDateInStyle, IsDateOfDay};
 
 // A date, or why there is none.
@@ -25,10 +28,7 @@ pub enum DateAnswer {
 }
 
 // The days of each month of a common year.
-const MONTH_LENGTHS: [u64; 12] = [31, 28, 31, 30, 31, 30, 31, 31, 30, 31, 30, 31];
-
-// The days of a common year before each month.
-const DAYS_BEFORE: [u64; 12] = [0, 31, 59, 90, 120, 151, 181, 212, 243, 273, 304, 334];
+const MONTH_LENGTHS: [u8; 12] = [31, 28, 31, 30, 31, 30, 31, 31, 30, 31, 30, 31];
 
 // The days of a month.
 fn month_length(leap_year: bool, month: u64) -> u64
@@ -36,7 +36,7 @@ fn month_length(leap_year: bool, month: u64) -> u64
     ensures { λ r. ⌜ r ≡ monthLength «leap_year» month ⌝ }
 {
     let i = (month - 1) as usize;
-    let n = MONTH_LENGTHS[i];
+    let n = MONTH_LENGTHS[i] as u64;
     if month == 2 {
         if leap_year {
             return 29;
@@ -45,13 +45,33 @@ fn month_length(leap_year: bool, month: u64) -> u64
     n
 }
 
+// The days of a common year before a month.
+fn common_before(month: u64) -> u64
+    requires { ⌜ (1 ≤ month) × (month ≤ 12) ⌝ }
+    ensures { λ r. ⌜ r ≡ daysOfMonths false (pred month) ⌝ }
+{
+    match month {
+        1 => 0,
+        2 => 31,
+        3 => 59,
+        4 => 90,
+        5 => 120,
+        6 => 151,
+        7 => 181,
+        8 => 212,
+        9 => 243,
+        10 => 273,
+        11 => 304,
+        _ => 334,
+    }
+}
+
 // The days of a year before a month.
 fn days_before(leap_year: bool, month: u64) -> u64
     requires { ⌜ (1 ≤ month) × (month ≤ 12) ⌝ }
     ensures { λ r. ⌜ r ≡ daysOfMonths «leap_year» (pred month) ⌝ }
 {
-    let i = (month - 1) as usize;
-    let n = DAYS_BEFORE[i];
+    let n = common_before(month);
     if leap_year {
         if month > 2 {
             return n + 1;
@@ -67,6 +87,10 @@ fn is_date(named: NamedYear, month: u64, day: u64) -> bool
     if !is_between(1, month, 12) {
         return false;
     }
+    // Every month has these, so neither its length nor the year matters.
+    if is_between(1, day, 28) {
+        return true;
+    }
     is_between(1, day, month_length(is_leap(named), month))
 }
 
@@ -78,18 +102,27 @@ fn day_number(named: NamedYear, month: u64, day: u64) -> u64
     new_year(named) + days_before(is_leap(named), month) + (day - 1)
 }
 
-// The day of a date of a named year.
-pub fn day_in_year(named: NamedYear, month: u64, day: u64) -> DayAnswer
-    ensures { λ r. ⌜ r ≡ dayInYear named month day ⌝ }
+// The day of a date of a year; its style comes as a truth value, which is handed on in a register and not in memory.
+fn day_by(gregorian: bool, year: u64, month: u64, day: u64) -> DayAnswer
+    ensures { λ r. ⌜ r ≡ dayInYear (named (styleBy gregorian) year) month day ⌝ }
 {
+    let style = style_by(gregorian);
+    let named = NamedYear { style, year };
     if !is_served(named) {
         return DayAnswer::NoDay(Refusal::Year);
     }
     if !is_date(named, month, day) {
         return DayAnswer::NoDay(Refusal::Date);
     }
-    let style = named.style;
     day_within(style, day_number(named, month, day))
+}
+
+// The day of a date of a named year.
+pub fn day_in_year(named: NamedYear, month: u64, day: u64) -> DayAnswer
+    ensures { λ r. ⌜ r ≡ dayInYear named month day ⌝ }
+{
+    let style = named.style;
+    day_by(is_gregorian(style), named.year, month, day)
 }
 
 // Date to day: refused by 1, 4, 5 or 6.
@@ -97,7 +130,7 @@ pub fn day_of_date(style: u64, year: u64, month: u64, day: u64) -> DayAnswer
     ensures { λ r. ⌜ r ≡ dayOfDate style year month day ⌝ }
 {
     match style_of(style) {
-        StyleAnswer::Known(known) => day_in_year(NamedYear { style: known, year }, month, day),
+        StyleAnswer::Known(known) => day_by(is_gregorian(known), year, month, day),
         StyleAnswer::NoStyle(refusal) => DayAnswer::NoDay(refusal),
     }
 }

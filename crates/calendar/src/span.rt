@@ -4,16 +4,7 @@ use crate::refusal::Refusal;
 use crate::refusal::refusal_number;
 use crate::style::Style;
 ghost use mathlib.Core.Path.{_≡_};
-ghost use Rattle.calendar.specs.Span.{inSpan, within, dayOrRefusal};
-
-// The first and the last day of each style's span.
-const J_FIRST: u64 = 1721424;
-
-const J_LAST: u64 = 5373557;
-
-const G_FIRST: u64 = 2299161;
-
-const G_LAST: u64 = 5373484;
+ghost use Rattle.calendar.specs.Span.{firstDay, lastDay, inSpan, within, dayOrRefusal};
 
 // A day, or why there is none.
 pub enum DayAnswer {
@@ -21,14 +12,31 @@ pub enum DayAnswer {
     NoDay(Refusal),
 }
 
+// The first day of the style's span.
+fn first_day(style: Style) -> u64
+    ensures { λ r. ⌜ r ≡ firstDay style ⌝ }
+{
+    match style {
+        Style::Julian => 1721424,
+        Style::Gregorian => 2299161,
+    }
+}
+
+// The last day of the style's span.
+fn last_day(style: Style) -> u64
+    ensures { λ r. ⌜ r ≡ lastDay style ⌝ }
+{
+    match style {
+        Style::Julian => 5373557,
+        Style::Gregorian => 5373484,
+    }
+}
+
 // Whether a day lies in the style's span.
 pub(crate) fn is_in_span(style: Style, day: u64) -> bool
     ensures { λ r. ⌜ r ≡ inSpan style day ⌝ }
 {
-    match style {
-        Style::Julian => is_between(J_FIRST, day, J_LAST),
-        Style::Gregorian => is_between(G_FIRST, day, G_LAST),
-    }
+    is_between(first_day(style), day, last_day(style))
 }
 
 // The day itself where the span has it.

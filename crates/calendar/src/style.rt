@@ -1,7 +1,7 @@
 // The two styles of dating.
 use crate::refusal::Refusal;
 ghost use mathlib.Core.Path.{_≡_};
-ghost use Rattle.calendar.specs.Style.{styleLetter, styleOf};
+ghost use Rattle.calendar.specs.Style.{styleLetter, styleBy, styleOf};
 
 // A calendar by which dates are written.
 pub enum Style {
@@ -26,6 +26,26 @@ pub fn style_of(number: u64) -> StyleAnswer
         return StyleAnswer::Known(Style::Gregorian);
     }
     StyleAnswer::NoStyle(Refusal::Name)
+}
+
+// Whether a style is the Gregorian one.
+pub fn is_gregorian(style: Style) -> bool
+    ensures { λ r. ⌜ styleBy r ≡ style ⌝ }
+{
+    match style {
+        Style::Julian => false,
+        Style::Gregorian => true,
+    }
+}
+
+// The style by whether it is the Gregorian one.
+pub fn style_by(gregorian: bool) -> Style
+    ensures { λ r. ⌜ r ≡ styleBy gregorian ⌝ }
+{
+    if gregorian {
+        return Style::Gregorian;
+    }
+    Style::Julian
 }
 
 // The byte of a style's letter.

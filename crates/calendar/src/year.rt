@@ -5,7 +5,7 @@ ghost use mathlib.Core.Path.{_≡_};
 ghost use mathlib.Core.Bool.{true};
 ghost use Prim.Native.Nat.{_+_, _≤_, _<_};
 ghost use Rattle.calendar.specs.Span.{inSpan};
-ghost use Rattle.calendar.specs.Year.{leap, served, newYear, YearOf};
+ghost use Rattle.calendar.specs.Year.{leap, firstYear, served, newYear, YearOf};
 
 // The day number of 1 January 1 in each style.
 const J_NEW_YEAR: u64 = 1721424;
@@ -38,16 +38,22 @@ pub fn is_leap(named: NamedYear) -> bool
     }
 }
 
+// The first year that is served.
+fn first_year(style: Style) -> u64
+    ensures { λ r. ⌜ r ≡ firstYear style ⌝ }
+{
+    match style {
+        Style::Julian => 1,
+        Style::Gregorian => 1582,
+    }
+}
+
 // Whether the year is served.
 pub(crate) fn is_served(named: NamedYear) -> bool
     ensures { λ r. ⌜ r ≡ served (named .style) (named .year) ⌝ }
 {
     let style = named.style;
-    let year = named.year;
-    match style {
-        Style::Julian => is_between(1, year, 9999),
-        Style::Gregorian => is_between(1582, year, 9999),
-    }
+    is_between(first_year(style), named.year, 9999)
 }
 
 // The day number of 1 January, in closed form.

@@ -7,6 +7,8 @@ use calendar::refusal::Refusal;
 use calendar::span::DayAnswer;
 use calendar::span::day_within;
 use calendar::style::StyleAnswer;
+use calendar::style::is_gregorian;
+use calendar::style::style_by;
 use calendar::style::style_of;
 use calendar::weekday::Side;
 use calendar::weekday::first_weekday;
@@ -14,10 +16,12 @@ use calendar::year::NamedYear;
 use calendar::year::is_leap;
 ghost use mathlib.Core.Path.{_≡_};
 ghost use Prim.Native.Nat.{_≤_};
+ghost use Rattle.calendar.specs.Style.{styleBy};
+ghost use Rattle.calendar.specs.Year.{named};
 ghost use Rattle.church.specs.Feast.{advent, rule, ruleDay, feastInYear, feastOfYear};
 
 // The days from Easter of the feasts 1 to 23, with 63 added to each.
-const FROM_EASTER: [u64; 23] = [
+const FROM_EASTER: [u8; 23] = [
     0, // septuagesima (-63)
     7, // sexagesima (-56)
     14, // estomihi (-49)
@@ -44,7 +48,7 @@ const FROM_EASTER: [u64; 23] = [
 ];
 
 // The days and the months of the feasts 24 to 47.
-const FIXED_DAYS: [u64; 24] = [
+const FIXED_DAYS: [u8; 24] = [
     1, // circumcision
     6, // epiphany
     2, // candlemas
@@ -71,7 +75,7 @@ const FIXED_DAYS: [u64; 24] = [
     25, // christmas
 ];
 
-const FIXED_MONTHS: [u64; 24] = [
+const FIXED_MONTHS: [u8; 24] = [
     1, // circumcision
     1, // epiphany
     2, // candlemas
@@ -99,7 +103,7 @@ const FIXED_MONTHS: [u64; 24] = [
 ];
 
 // How many days later the feasts 24 to 47 are kept in a leap year.
-const LATER_IN_LEAP_YEARS: [u64; 24] = [
+const LATER_IN_LEAP_YEARS: [u8; 24] = [
     0, // circumcision
     0, // epiphany
     0, // candlemas
@@ -137,7 +141,7 @@ fn hung_on_easter(named: NamedYear, feast: u64) -> DayAnswer
     };
     let style = named.style;
     let i = (feast - 1) as usize;
-    day_within(style, easter as u64 + FROM_EASTER[i] - 63)
+    day_within(style, easter as u64 + FROM_EASTER[i] as u64 - 63)
 }
 
 // The day of a feast that has a date.
@@ -147,11 +151,11 @@ fn fixed_in_year(named: NamedYear, feast: u64) -> DayAnswer
 {
     let i = (feast - 24) as usize;
     let later = if is_leap(named) {
-        LATER_IN_LEAP_YEARS[i]
+        LATER_IN_LEAP_YEARS[i] as u64
     } else {
         0
     };
-    day_in_year(named, FIXED_MONTHS[i], FIXED_DAYS[i] + later)
+    day_in_year(named, FIXED_MONTHS[i] as u64, FIXED_DAYS[i] as u64 + later)
 }
 
 // Advent, the first Sunday after 26 November.
@@ -166,10 +170,12 @@ fn advent_of_year(named: NamedYear) -> DayAnswer
     day_within(style, first_weekday(Side::After, SUNDAY, day))
 }
 
-// The day of a feast of a named year.
-pub fn feast_in_year(named: NamedYear, feast: u64) -> DayAnswer
-    ensures { λ r. ⌜ r ≡ feastInYear named feast ⌝ }
+// The day of a feast of a year; its style comes as a truth value, which is handed on in a register and not in memory.
+fn feast_by(gregorian: bool, year: u64, feast: u64) -> DayAnswer
+    ensures { λ r. ⌜ r ≡ feastInYear (named (styleBy gregorian) year) feast ⌝ }
 {
+    let style = style_by(gregorian);
+    let named = NamedYear { style, year };
     if !is_between(1, feast, 48) {
         return DayAnswer::NoDay(Refusal::Name);
     }
@@ -182,12 +188,20 @@ pub fn feast_in_year(named: NamedYear, feast: u64) -> DayAnswer
     advent_of_year(named)
 }
 
+// The day of a feast of a named year.
+pub fn feast_in_year(named: NamedYear, feast: u64) -> DayAnswer
+    ensures { λ r. ⌜ r ≡ feastInYear named feast ⌝ }
+{
+    let style = named.style;
+    feast_by(is_gregorian(style), named.year, feast)
+}
+
 // Feast: refused by 1, 4 or 6.
 pub fn feast_of_year(style: u64, feast: u64, year: u64) -> DayAnswer
     ensures { λ r. ⌜ r ≡ feastOfYear style feast year ⌝ }
 {
     match style_of(style) {
-        StyleAnswer::Known(known) => feast_in_year(NamedYear { style: known, year }, feast),
+        StyleAnswer::Known(known) => feast_by(is_gregorian(known), year, feast),
         StyleAnswer::NoStyle(refusal) => DayAnswer::NoDay(refusal),
     }
 }

@@ -112,7 +112,8 @@ DatedOn s n (NoDate x) = ⊥
 
 first-of : (b : Bool) (m : ℕ) → m < 12 → DateBounds b (m + 1) 1
 first-of b m h =
-    record { month-low = omega arith; month-high = omega arith; day-low = omega arith; day-high = rw add-one (month-has-days b m h) }
+    let some = month-has-days b (m + 1) (omega arith) (omega arith) in
+    record { month-low = omega arith; month-high = omega arith; day-low = omega arith; day-high = omega arith }
 
 new-years-day : (s : Style) (y : ℕ) → 1 ≤ y → Dated s (newYear s y) y 1 1
 unfolding dayNumber daysOfMonths

@@ -1,37 +1,29 @@
--- Months: their tables, and the one month that holds a day of a year.
+-- Months: their lengths, and the one month that holds a day of a year.
 use mathlib.Core.Bool.{Bool, true, false, _&&_, cond}
-use mathlib.Core.List.{List, [], _∷_}
 use mathlib.Core.Path.{_≡_, refl}
 use Prim.Native.Nat.{ℕ, zero, suc, pred, _+_, _/_, _≤_, _<_}
 use native.Mathlib.Nat.{le-add-right}
 use native.Mathlib.Omega.{arith}
 use lib.Dec.{T, leb, ltb, eqb, leb→le, ltb→lt, eqb→eq}
-use lib.ListN.{getD}
 use Rattle.calendar.proofs.Counting.{rises, one-place}
 use Rattle.calendar.proofs.Each.{of-both, below, T-both}
 use Rattle.calendar.specs.Date.{monthLength, daysOfMonths, MonthOf}
 
--- the days of a common year before each month, as the code's table has them
-abbrev pub daysBefore : List ℕ
-daysBefore = 0 ∷ 31 ∷ 59 ∷ 90 ∷ 120 ∷ 151 ∷ 181 ∷ 212 ∷ 243 ∷ 273 ∷ 304 ∷ 334 ∷ []
-
-before-test : Bool → ℕ → Bool
-before-test b k = eqb (getD daysBefore k 0 + cond (b && ltb 1 k) 1 0) (daysOfMonths b k)
-
-pub before-counted : (b : Bool) (k : ℕ) → k < 12 → getD daysBefore k 0 + cond (b && ltb 1 k) 1 0 ≡ daysOfMonths b k
-unfolding before-test daysOfMonths
-before-counted b k h = eqb→eq _ _ (of-both before-test 12 tt b k h)
+leap-test : Bool → ℕ → Bool
+leap-test b k = eqb (daysOfMonths b k) (daysOfMonths false k + cond (b && ltb 1 k) 1 0)
 
 -- the leap day stands before the months from March on
 pub leap-day : (b t : Bool) (k : ℕ) → k < 12 → ltb 1 k ≡ t → daysOfMonths b k ≡ daysOfMonths false k + cond (b && t) 1 0
-leap-day b t k h e = omega (arith, rw e at (before-counted b k h), before-counted false k h)
+unfolding leap-test daysOfMonths
+leap-day b t k h e = rw (← e) (eqb→eq _ _ (of-both leap-test 12 tt b k h))
 
 some-test : Bool → ℕ → Bool
-some-test b k = leb 1 (monthLength b (suc k))
+some-test b k = leb 28 (monthLength b (suc k))
 
-pub month-has-days : (b : Bool) (m : ℕ) → m < 12 → 1 ≤ monthLength b (suc m)
+pub month-has-days : (b : Bool) (m : ℕ) → 1 ≤ m → m ≤ 12 → 28 ≤ monthLength b m
 unfolding some-test
-month-has-days b m h = leb→le _ _ (of-both some-test 12 tt b m h)
+month-has-days b zero l h = absurd (omega arith)
+month-has-days b (suc m) l h = leb→le _ _ (of-both some-test 12 tt b m (omega arith))
 
 small-test : Bool → ℕ → Bool
 small-test b k = leb (monthLength b (suc k)) 31

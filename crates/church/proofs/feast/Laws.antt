@@ -2,7 +2,7 @@
 use mathlib.Core.Bool.{Bool, true, false, _&&_, cond}
 use mathlib.Core.List.{List, [], _∷_}
 use mathlib.Core.Path.{_≡_, refl, _∙_}
-use Prim.Native.Nat.{ℕ, suc, pred, _+_, _-_, _^_, _≤_, _<_}
+use Prim.Native.Nat.{ℕ, suc, pred, _+_, _-_, _≤_, _<_}
 use native.Mathlib.Omega.{arith}
 use lib.Dec.{T, leb, eqb, leb→le, eqb→eq}
 use lib.IntN.{ℤ, pos, negsuc}
@@ -129,12 +129,12 @@ fixed-day t i h =
     let l = leap (t .style) (t .year) in
     dated-rule t (rule (i + 24)) (dayOfMonth l i) (getD fixedMonths i 0) (dated-tested l i h)
 
-small-day : Bool → ℕ → Bool
-small-day b i = leb (dayOfMonth b i) 31
+small-date : Bool → ℕ → Bool
+small-date b i = leb (dayOfMonth b i + getD fixedMonths i 0) 43
 
-pub day-of-month-fits : (b : Bool) (i : ℕ) → i < 24 → dayOfMonth b i < 2 ^ 64
-unfolding small-day
-day-of-month-fits b i h = omega (arith, leb→le (dayOfMonth b i) 31 (of-both small-day 24 tt b i h))
+pub fixed-small : (b : Bool) (i : ℕ) → i < 24 → dayOfMonth b i + getD fixedMonths i 0 ≤ 43
+unfolding small-date
+fixed-small b i h = leb→le _ 43 (of-both small-date 24 tt b i h)
 
 -- a feast of the table is kept by its rule
 pub in-table : (t : NamedYear) (f : ℕ) → between 1 f 48 ≡ true → feastInYear t f ≡ ruleDay t (rule f)

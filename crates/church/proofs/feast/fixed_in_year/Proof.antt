@@ -1,12 +1,12 @@
-use mathlib.Core.Bool.{cond}
+use mathlib.Core.Bool.{Bool, true, false, cond}
 use mathlib.Core.Logic.{⊎-elim}
 use mathlib.Core.Path.{_≡_, sym, _∙_}
-use Prim.Native.Nat.{_+_, _-_}
+use Prim.Native.Nat.{_+_, _-_, _≤_}
 use native.Mathlib.Omega.{arith}
 use lib.ListN.{getD}
 use borrow.Author.Needs.{needs}
 use Rattle.calendar.specs.Year.{leap}
-use Rattle.church.proofs.feast.Laws.{laterInLeapYears, fixed-day, day-of-month-fits}
+use Rattle.church.proofs.feast.Laws.{fixedMonths, laterInLeapYears, dayOfMonth, fixed-day, fixed-small}
 use Rattle.church.proofs.feast.fixed_in_year.Statement.{statement}
 use Rattle.church.proofs.feast.fixed_in_year.Tie as tie
 
@@ -19,12 +19,22 @@ added c =
     let e : leap (t .style) (t .year) ≡ c .before .is-leap .result = sym (c .before .is-leap .ensures) in
     ⊎-elim (λ w. rw (e ∙ w .0 .taken) (w .1)) (λ w. rw (e ∙ w .0 .left) (w .1)) (c .if1 .came)
 
+small : (c : tie.Start) (b : Bool) → dayOfMonth b (c .args .feast - 24) + getD fixedMonths (c .args .feast - 24) 0 ≤ 43
+small c b = fixed-small b (c .args .feast - 24) (omega arith)
+
+cast-later : tie.Need-cast-later
+cast-later c = omega (arith, small (c .before .before) true)
+
+cast-day-in-year : tie.Need-cast-day-in-year
+cast-day-in-year c = omega (arith, small (c .before .before) false)
+
+cast-day-in-year-2 : tie.Need-cast-day-in-year-2
+cast-day-in-year-2 c = omega (arith, small (c .before .before) false)
+
 add-day-in-year : tie.Need-add-day-in-year
 add-day-in-year c =
-    let start = c .before .before .before in
-    let t = start .args .named in
-    rw (added (c .before))
-    (record { fits = day-of-month-fits (leap (t .style) (t .year)) (start .args .feast - 24) (omega (arith, start .pre)) })
+    let t = c .before .before .before .args .named in
+    omega (arith, added (c .before), small (c .before .before .before) (leap (t .style) (t .year)))
 
 returns : tie.Need-returns
 returns c =
@@ -37,5 +47,12 @@ pub fixed-in-year-spec : {M : Type 1} → statement M
 fixed-in-year-spec =
     tie.close
     (tie.spec
-    (λ c. search needs) (λ c κs. search needs) (λ c. search needs) (λ c. search needs) (λ c. search needs) (λ c. search needs)
-    (λ c. search needs) (λ c. search needs) add-day-in-year (λ c κs. search needs) returns)
+    (λ c. search needs) (λ c κs. search needs) (λ c. search needs)
+    cast-later
+    (λ c. search needs)
+    cast-day-in-year
+    (λ c. search needs)
+    cast-day-in-year-2
+    add-day-in-year
+    (λ c κs. search needs)
+    returns)

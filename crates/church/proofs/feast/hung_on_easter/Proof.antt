@@ -40,10 +40,14 @@ returns-2 c = rw (hung (c .before .before .before .before .before), is-day (c .b
 sizes : (c : tie.After-answer) → (earliest ≤ c .answer .given .0 .0) × (c .answer .given .0 .0 ≤ latest)
 sizes c = rw (← is-day c .1) (easter-small _ _ (is-day c .0))
 
+small : (c : tie.Start) → getD fromEaster (c .args .feast - 1) 0 ≤ 123
+small c = from-easter-small (c .args .feast - 1) (omega arith)
+
+cast-day-within-2 : tie.Need-cast-day-within-2
+cast-day-within-2 c = omega (arith, small (c .before .before .before .before))
+
 add-day-within : tie.Need-add-day-within
-add-day-within c =
-    let start = c .before .before .before .before in
-    omega (arith, sizes (c .before), from-easter-small (start .args .feast - 1) (omega (arith, start .pre)))
+add-day-within c = omega (arith, sizes (c .before), small (c .before .before .before .before))
 
 sub-day-within : tie.Need-sub-day-within
 sub-day-within c = omega (arith, sizes (c .before))
@@ -54,7 +58,8 @@ hung-on-easter-spec =
     (tie.spec
     (λ c κs. search needs) (λ c. search needs) (λ c. search needs)
     returns
-    (λ c. search needs) (λ c. search needs) (λ c. search needs) (λ c. search needs)
+    (λ c. search needs) (λ c. search needs) (λ c. search needs)
+    cast-day-within-2
     add-day-within
     sub-day-within
     (λ c κs. search needs)
