@@ -5,7 +5,7 @@ use mathlib.Core.Path.{_≡_, refl}
 use Prim.Native.Nat.{ℕ, zero, suc, _-_, _≤_}
 use native.Mathlib.Omega.{arith}
 use lib.Dec.{T}
-use lib.ListN.{getD, set, replicate}
+use lib.ListN.{getD}
 use Rattle.calendar.proofs.Each.{each, below, is-true, T-both}
 
 abbrev pub every : List Bool → Bool
@@ -23,8 +23,3 @@ pub tested : (tests : ℕ → List Bool) (n : ℕ) → T (each (λ k. every (tes
 tested tests n t k low high i =
     let number : suc (k - 1) ≡ k = omega arith in
     rw number at (one-of (tests (suc (k - 1))) (below (λ k. every (tests (suc k))) n t (k - 1) (omega arith)) i)
-
--- the table of a size that has each number from 1 to n in its slot, and 0 in the others
-abbrev pub slots : (slot : ℕ → ℕ) (size n : ℕ) → List ℕ
-slots slot size zero = replicate size 0
-slots slot size (suc n) = set (slots slot size n) (slot (suc n)) (suc n)

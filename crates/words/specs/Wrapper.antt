@@ -1,12 +1,15 @@
 -- Wrappers: their words, and the phrases that begin with them.
+use mathlib.Core.Bool.{cond}
 use mathlib.Core.List.{List, [], _∷_, _++_}
-use Prim.Native.Nat.{ℕ, pred, _≤_}
+use Prim.Native.Nat.{ℕ, pred, _-_, _≤_}
 use Prim.Native.String.{String}
+use lib.Dec.{eqb, ltb}
 use lib.ListN.{length, getD}
 use Rattle.words.specs.Text.{bytes}
 use Rattle.words.specs.Told.{Grammar}
 use Rattle.calendar.specs.declared.weekday.Side.the-variants.{After, Before}
 use Rattle.calendar.specs.declared.weekday.Side.{Side}
+use Rattle.words.specs.declared.wrapper.Found.{Found}
 use Rattle.words.specs.declared.wrapper.Lead.the-variants.{Wrapped, Plain}
 use Rattle.words.specs.declared.wrapper.Lead.{Lead}
 use Rattle.words.specs.declared.wrapper.Wrapper.the-variants.{Eve, Morrow, Octave, First}
@@ -58,3 +61,16 @@ leadWords Plain = []
 abbrev pub leadLength : Lead → ℕ
 leadLength (Wrapped w n) = n
 leadLength Plain = 0
+
+-- the wrappers by the numbers 1 to 17
+abbrev pub wrapperOf : ℕ → Wrapper
+wrapperOf n =
+    cond (ltb n 2) Eve
+    (cond (ltb n 3) Morrow
+    (cond (ltb n 4) Octave
+    (cond (ltb n 11) (First After (n - 3))
+    (First Before (n - 10)))))
+
+-- what a wrapper's number and the length of its words say; the number 0 is none's
+abbrev pub leadOf : Found → Lead
+leadOf f = cond (eqb (f .number) 0) Plain (Wrapped (wrapperOf (f .number)) (f .length))

@@ -1,5 +1,8 @@
 // Numerals of the line.
+ghost use mathlib.Core.List.{[], _∷_};
+ghost use mathlib.Core.Path.{_≡_};
 ghost use Rattle.words.specs.Numeral.{numerals};
+ghost use Rattle.words.specs.Steps.{digitValue};
 ghost use Rattle.words.specs.Told.{Told};
 
 // The number from 1 to high, of at most four digits, whose numeral the bytes are; 0 where they are
@@ -37,4 +40,41 @@ pub fn number_of(text: &[u8], high: u64) -> u64
         return 0;
     }
     n
+}
+
+// The value of a digit; 10 or more where the byte is none.
+fn digit_value(byte: u8) -> u32
+    ensures { λ r. ⌜ r ≡ digitValue byte ⌝ }
+{
+    let code = byte as u32;
+    if code < 48 {
+        return 10;
+    }
+    code - 48
+}
+
+// The number of four digits, the first not 0; 0 where the bytes are not such.
+pub fn four_digits(a: u8, b: u8, c: u8, d: u8) -> u32
+    ensures { λ r. ⌜ Told (numerals 9999) (λ n. n) 0 (a ∷ b ∷ c ∷ d ∷ []) r ⌝ }
+{
+    let thousands = digit_value(a);
+    if thousands > 9 {
+        return 0;
+    }
+    if thousands == 0 {
+        return 0;
+    }
+    let hundreds = digit_value(b);
+    if hundreds > 9 {
+        return 0;
+    }
+    let tens = digit_value(c);
+    if tens > 9 {
+        return 0;
+    }
+    let ones = digit_value(d);
+    if ones > 9 {
+        return 0;
+    }
+    1000 * thousands + 100 * hundreds + 10 * tens + ones
 }

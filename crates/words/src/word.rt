@@ -1,222 +1,136 @@
-// The feast words: each is told by two bytes and its length, and then compared.
-use crate::text::starts_with;
+// The feast words: each has a slot, told by two of its bytes and its length, and is then compared with what the slot holds.
+use crate::text::is_word;
 ghost use mathlib.Core.Path.{_≡_};
 ghost use Prim.Native.Nat.{_+_, _*_, _%_, _≤_};
-ghost use Rattle.words.specs.Steps.{Tells, Guess};
+ghost use Rattle.words.specs.Steps.{outerIn, innerIn, feastSlot};
 ghost use Rattle.words.specs.Told.{Told};
 ghost use Rattle.words.specs.Word.{feastWord, feastWords};
 
-// Where the feast words begin in the text, and where one more would.
-const WORD_AT: [u16; 49] = [
-    0, // septuagesima
-    13, // sexagesima
-    24, // estomihi
-    33, // ashes
-    39, // invocavit
-    49, // reminiscere
-    61, // oculi
-    67, // laetare
-    75, // judica
-    82, // palms
-    88, // cena
-    93, // parasceve
-    103, // easter
-    110, // quasimodo
-    120, // misericordia
-    133, // jubilate
-    142, // cantate
-    150, // rogate
-    157, // ascension
-    167, // exaudi
-    174, // pentecost
-    184, // trinity
-    192, // corpus
-    199, // circumcision
-    212, // epiphany
-    221, // candlemas
-    231, // matthias
-    240, // annunciation
-    253, // mark
-    258, // philip
-    265, // baptist
-    273, // peter
-    279, // magdalene
-    289, // james
-    295, // laurence
-    304, // assumption
-    315, // bartholomew
-    327, // matthew
-    335, // michael
-    343, // luke
-    348, // simon
-    354, // saints
-    361, // martin
-    368, // andrew
-    375, // nicholas
-    384, // thomas
-    391, // christmas
-    401, // advent
-    408, // behind the last
-];
-
-// Whether the bytes are the word of a feast.
-fn is_feast_word(word: &[u8], feast: usize) -> bool
-    requires { ⌜ (1 ≤ feast) × (feast ≤ 48) ⌝ }
-    ensures { λ r. ⌜ Tells r (feastWord feast ≡ now (word .entry)) ⌝ }
+// The first four and the last four bytes of the word in a slot, as one number.
+fn outer_in(slot: usize) -> u64
+    ensures { λ r. ⌜ r ≡ outerIn feastSlot feastWord 48 slot ⌝ }
 {
-    let words: &[u8] =
-        b"septuagesima,sexagesima,estomihi,ashes,invocavit,reminiscere,oculi,laetare,judica,palms,cena,parasceve,easter,quasimodo,misericordia,jubilate,cantate,rogate,ascension,exaudi,pentecost,trinity,corpus,circumcision,epiphany,candlemas,matthias,annunciation,mark,philip,baptist,peter,magdalene,james,laurence,assumption,bartholomew,matthew,michael,luke,simon,saints,martin,andrew,nicholas,thomas,christmas,advent";
-    let start = WORD_AT[feast - 1] as usize;
-    let end = WORD_AT[feast] as usize - 1;
-    if word.len() != end - start {
-        return false;
+    match slot {
+        7 => 0x746976616f766e69, // invocavit
+        8 => 0x65726563696d6572, // reminiscere
+        9 => 0x616d697361786573, // sexagesima
+        10 => 0x77656d6f74726162, // bartholomew
+        11 => 0x7765726472646e61, // andrew
+        13 => 0x73616d7469726863, // christmas
+        15 => 0x696c75636c75636f, // oculi
+        16 => 0x73656d61656d616a, // james
+        18 => 0x73616d6f6d6f6874, // thomas
+        21 => 0x616e6563616e6563, // cena
+        27 => 0x6b72616d6b72616d, // mark
+        35 => 0x7365687365687361, // ashes
+        37 => 0x616964726573696d, // misericordia
+        38 => 0x657261747465616c, // laetare
+        40 => 0x7265746565746570, // peter
+        44 => 0x74736f63746e6570, // pentecost
+        45 => 0x7265747374736165, // easter
+        49 => 0x6e6f697365637361, // ascension
+        50 => 0x656b756c656b756c, // luke
+        51 => 0x73746e696e696173, // saints
+        53 => 0x6c6561686863696d, // michael
+        54 => 0x7473697474706162, // baptist
+        59 => 0x6e6974727472616d, // martin
+        61 => 0x6e6f697363726963, // circumcision
+        63 => 0x746e657665766461, // advent
+        69 => 0x65746174746e6163, // cantate
+        70 => 0x616369646964756a, // judica
+        74 => 0x70696c696c696870, // philip
+        75 => 0x6e6f6d696f6d6973, // simon
+        77 => 0x6f646f6d73617571, // quasimodo
+        79 => 0x6e6f6974756e6e61, // annunciation
+        82 => 0x6574616c6962756a, // jubilate
+        84 => 0x6576656361726170, // parasceve
+        86 => 0x65636e657275616c, // laurence
+        87 => 0x6968696d6f747365, // estomihi
+        88 => 0x736d6c616d6c6170, // palms
+        89 => 0x616d697374706573, // septuagesima
+        93 => 0x7375707270726f63, // corpus
+        95 => 0x776568747474616d, // matthew
+        97 => 0x6e6f697475737361, // assumption
+        101 => 0x73616d65646e6163, // candlemas
+        102 => 0x7974696e6e697274, // trinity
+        104 => 0x73616c6f6863696e, // nicholas
+        105 => 0x796e616870697065, // epiphany
+        111 => 0x736169687474616d, // matthias
+        121 => 0x6964756175617865, // exaudi
+        124 => 0x6574616761676f72, // rogate
+        125 => 0x656e656c6467616d, // magdalene
+        _ => 0,
     }
-    starts_with(word, &words[start..end])
 }
 
-// The number of the feast whose word falls into a slot; 0 where none does.
-const FEAST_AT: [u8; 128] = [
-    0,
-    0,
-    0,
-    23, // corpus
-    11, // cena
-    30, // philip
-    0,
-    0,
-    29, // mark
-    28, // annunciation
-    0,
-    0,
-    19, // ascension
-    44, // andrew
-    0,
-    0,
-    48, // advent
-    0,
-    0,
-    0,
-    0,
-    36, // assumption
-    0,
-    22, // trinity
-    0,
-    33, // magdalene
-    0,
-    0,
-    0,
-    0,
-    0,
-    0,
-    0,
-    0,
-    4, // ashes
-    8, // laetare
-    0,
-    0,
-    0,
-    0,
-    42, // saints
-    9, // judica
-    31, // baptist
-    0,
-    41, // simon
-    0,
-    0,
-    0,
-    0,
-    17, // cantate
-    16, // jubilate
-    2, // sexagesima
-    0,
-    27, // matthias
-    34, // james
-    0,
-    0,
-    0,
-    0,
-    0,
-    0,
-    0,
-    26, // candlemas
-    13, // easter
-    0,
-    15, // misericordia
-    20, // exaudi
-    35, // laurence
-    5, // invocavit
-    1, // septuagesima
-    0,
-    0,
-    38, // matthew
-    0,
-    0,
-    14, // quasimodo
-    0,
-    46, // thomas
-    32, // peter
-    40, // luke
-    0,
-    12, // parasceve
-    3, // estomihi
-    0,
-    21, // pentecost
-    0,
-    0,
-    0,
-    0,
-    0,
-    0,
-    43, // martin
-    0,
-    0,
-    0,
-    6, // reminiscere
-    0,
-    0,
-    0,
-    0,
-    0,
-    45, // nicholas
-    0,
-    0,
-    47, // christmas
-    0,
-    25, // epiphany
-    24, // circumcision
-    37, // bartholomew
-    0,
-    10, // palms
-    0,
-    0,
-    0,
-    0,
-    7, // oculi
-    0,
-    0,
-    0,
-    0,
-    39, // michael
-    0,
-    0,
-    0,
-    18, // rogate
-    0,
-    0,
-    0,
-];
+// The four bytes in the middle of the word in a slot, its length and the number of its feast, as one number.
+fn inner_in(slot: usize) -> u64
+    ensures { λ r. ⌜ r ≡ innerIn feastSlot feastWord 48 slot ⌝ }
+{
+    match slot {
+        7 => 0x050961636f76, // invocavit
+        8 => 0x060b73696e69, // reminiscere
+        9 => 0x020a73656761, // sexagesima
+        10 => 0x250b6c6f6874, // bartholomew
+        11 => 0x2c066572646e, // andrew
+        13 => 0x2f0974736972, // christmas
+        15 => 0x07056c75636f, // oculi
+        16 => 0x2205656d616a, // james
+        18 => 0x2e06616d6f68, // thomas
+        21 => 0x0b04616e6563, // cena
+        27 => 0x1d046b72616d, // mark
+        35 => 0x040565687361, // ashes
+        37 => 0x0f0c6f636972, // misericordia
+        38 => 0x080761746561, // laetare
+        40 => 0x200565746570, // peter
+        44 => 0x15096365746e, // pentecost
+        45 => 0x0d0665747361, // easter
+        49 => 0x1309736e6563, // ascension
+        50 => 0x2804656b756c, // luke
+        51 => 0x2a06746e6961, // saints
+        53 => 0x270761686369, // michael
+        54 => 0x1f0769747061, // baptist
+        59 => 0x2b0669747261, // martin
+        61 => 0x180c69636d75, // circumcision
+        63 => 0x30066e657664, // advent
+        69 => 0x110761746e61, // cantate
+        70 => 0x090663696475, // judica
+        74 => 0x1e06696c6968, // philip
+        75 => 0x29056f6d6973, // simon
+        77 => 0x0e096d697361, // quasimodo
+        79 => 0x1c0c6169636e, // annunciation
+        82 => 0x1008616c6962, // jubilate
+        84 => 0x0c0963736172, // parasceve
+        86 => 0x23086e657275, // laurence
+        87 => 0x0308696d6f74, // estomihi
+        88 => 0x0a056d6c6170, // palms
+        89 => 0x010c65676175, // septuagesima
+        93 => 0x17067570726f, // corpus
+        95 => 0x260768747461, // matthew
+        97 => 0x240a74706d75, // assumption
+        101 => 0x1a09656c646e, // candlemas
+        102 => 0x1607696e6972, // trinity
+        104 => 0x2d086c6f6863, // nicholas
+        105 => 0x190861687069, // epiphany
+        111 => 0x1b0869687474, // matthias
+        121 => 0x140664756178, // exaudi
+        124 => 0x12067461676f, // rogate
+        125 => 0x21096c616467, // magdalene
+        _ => 0,
+    }
+}
 
 // The slot of two bytes and a length; no two feast words share one.
-fn slot(second: u8, last_but_one: u8, count: usize) -> usize
+fn slot(first: u8, third: u8, count: usize) -> usize
     requires { ⌜ count ≤ 12 ⌝ }
-    ensures { λ r. ⌜ r ≡ (6 * second + 7 * «last_but_one» + 9 * count) % 128 ⌝ }
+    ensures { λ r. ⌜ r ≡ (35 * first + 10 * third + 16 * count) % 128 ⌝ }
 {
-    (6 * second as usize + 7 * last_but_one as usize + 9 * count) % 128
+    (35 * first as usize + 10 * third as usize + 16 * count) % 128
 }
 
-// The number of the one feast whose word it may be, or 0.
-fn feast_guess(word: &[u8]) -> usize
-    ensures { λ r. ⌜ Guess 48 (λ n. feastWord n ≡ now (word .entry)) r ⌝ }
+// The number of the feast whose word it is, or 0.
+pub fn feast_of_word(word: &[u8]) -> u64
+    ensures { λ r. ⌜ Told feastWords (λ n. n) 0 (now (word .entry)) r ⌝ }
 {
     let length = word.len();
     if length < 4 {
@@ -225,20 +139,10 @@ fn feast_guess(word: &[u8]) -> usize
     if length > 12 {
         return 0;
     }
-    let i = slot(word[1], word[length - 2], length);
-    FEAST_AT[i] as usize
-}
-
-// The number of the feast whose word it is, or 0.
-pub fn feast_of_word(word: &[u8]) -> u64
-    ensures { λ r. ⌜ Told feastWords (λ n. n) 0 (now (word .entry)) r ⌝ }
-{
-    let number = feast_guess(word);
-    if number == 0 {
+    let slot = slot(word[0], word[2], length);
+    let inner = inner_in(slot);
+    if !is_word(word, length, outer_in(slot), inner % 1099511627776) {
         return 0;
     }
-    if !is_feast_word(word, number) {
-        return 0;
-    }
-    number as u64
+    inner / 1099511627776
 }

@@ -1,14 +1,12 @@
-// Wrappers: each is told by three bytes, and then compared.
-use crate::text::starts_with;
-use crate::text::word_taken;
+// Wrappers: each has a slot, told by three bytes, and is then compared with what the slot holds.
+use crate::text::four_at;
+use crate::text::is_word;
 use calendar::weekday::Side;
-ghost use mathlib.Core.Bool.{true};
-ghost use mathlib.Core.List.{_++_};
 ghost use mathlib.Core.Path.{_≡_};
 ghost use Prim.Native.Nat.{_+_, _*_, _%_, _≤_};
-ghost use Rattle.words.specs.Steps.{starts, taken, Guess, wrapperOf};
+ghost use Rattle.words.specs.Steps.{outerIn, innerIn, wrapperSlot, wordsOf, lengthBy, MayLead};
 ghost use Rattle.words.specs.Told.{Told};
-ghost use Rattle.words.specs.Wrapper.{weekdayWord, sideWord, wrapperWords, GoodWrapper, leadings, lead};
+ghost use Rattle.words.specs.Wrapper.{leadings, lead, leadOf};
 ghost use Rattle.words.specs.declared.wrapper.Lead.the-variants.{Plain};
 
 // What stands before a phrase and moves its day.
@@ -26,41 +24,63 @@ pub enum Lead {
     Plain,
 }
 
-// The number of the wrapper whose words fall into a slot; 0 where none do.
-const WRAPPER_AT: [u8; 32] = [
-    3, // octave of
-    0,
-    0,
-    6, // wed after
-    13, // wed before
-    2, // morrow of
-    0,
-    0,
-    0,
-    7, // thu after
-    14, // thu before
-    9, // sat after
-    16, // sat before
-    0,
-    0,
-    0,
-    0,
-    1, // eve of
-    0,
-    0,
-    0,
-    8, // fri after
-    15, // fri before
-    4, // mon after
-    11, // mon before
-    0,
-    0,
-    10, // sun after
-    17, // sun before
-    5, // tue after
-    12, // tue before
-    0,
-];
+// The number of a wrapper and the length of its words; 0 and 0 for none.
+pub struct Found {
+    pub number: u64,
+    pub length: usize,
+}
+
+// The first four and the last four bytes of the words in a slot, as one number.
+fn outer_in(slot: usize) -> u64
+    ensures { λ r. ⌜ r ≡ outerIn wrapperSlot wordsOf 17 slot ⌝ }
+{
+    match slot {
+        0 => 0x20666f206174636f, // octave of
+        3 => 0x2072657420646577, // wed after
+        4 => 0x2065726f20646577, // wed before
+        5 => 0x20666f2072726f6d, // morrow of
+        9 => 0x2072657420756874, // thu after
+        10 => 0x2065726f20756874, // thu before
+        11 => 0x2072657420746173, // sat after
+        12 => 0x2065726f20746173, // sat before
+        17 => 0x20666f2020657665, // eve of
+        21 => 0x2072657420697266, // fri after
+        22 => 0x2065726f20697266, // fri before
+        23 => 0x20726574206e6f6d, // mon after
+        24 => 0x2065726f206e6f6d, // mon before
+        27 => 0x20726574206e7573, // sun after
+        28 => 0x2065726f206e7573, // sun before
+        29 => 0x2072657420657574, // tue after
+        30 => 0x2065726f20657574, // tue before
+        _ => 0,
+    }
+}
+
+// The four bytes in the middle of the words in a slot, their length and the number of the wrapper, as one number.
+fn inner_in(slot: usize) -> u64
+    ensures { λ r. ⌜ r ≡ innerIn wrapperSlot wordsOf 17 slot ⌝ }
+{
+    match slot {
+        0 => 0x030a20657661, // octave of
+        3 => 0x060a74666120, // wed after
+        4 => 0x0d0b66656220, // wed before
+        5 => 0x020a20776f72, // morrow of
+        9 => 0x070a74666120, // thu after
+        10 => 0x0e0b66656220, // thu before
+        11 => 0x090a74666120, // sat after
+        12 => 0x100b66656220, // sat before
+        17 => 0x01076f206576, // eve of
+        21 => 0x080a74666120, // fri after
+        22 => 0x0f0b66656220, // fri before
+        23 => 0x040a74666120, // mon after
+        24 => 0x0b0b66656220, // mon before
+        27 => 0x0a0a74666120, // sun after
+        28 => 0x110b66656220, // sun before
+        29 => 0x050a74666120, // tue after
+        30 => 0x0c0b66656220, // tue before
+        _ => 0,
+    }
+}
 
 // The slot of three bytes; no two wrappers share one.
 fn slot(first: u8, second: u8, fifth: u8) -> usize
@@ -69,92 +89,63 @@ fn slot(first: u8, second: u8, fifth: u8) -> usize
     (2 * first as usize + 4 * second as usize + fifth as usize) % 32
 }
 
-// The number of the one wrapper that a phrase may begin with, or 0.
-fn wrapper_guess(phrase: &[u8]) -> usize
-    ensures { λ r. ⌜ Guess 17 (λ n. starts (wrapperWords (wrapperOf n)) (now (phrase .entry)) ≡ true) r ⌝ }
+// How many bytes a wrapper's words have, by two of them, so that what stands behind them need not wait for the slot.
+fn length_by(fourth: u8, fifth: u8) -> usize
+    ensures { λ r. ⌜ r ≡ lengthBy fourth fifth ⌝ }
 {
-    if phrase.len() < 5 {
-        return 0;
-    }
-    let i = slot(phrase[0], phrase[1], phrase[4]);
-    WRAPPER_AT[i] as usize
+    let behind_weekday = if fifth == b'b' { 11 } else { 10 };
+    let behind_space = if fifth == b'o' { 7 } else { behind_weekday };
+    if fourth == b' ' { behind_space } else { 10 }
 }
 
-// The wrapper with a number from 1 to 17.
-fn wrapper_of(number: usize) -> Wrapper
-    ensures { λ r. ⌜ r ≡ wrapperOf number ⌝ }
+// Whether a wrapper may begin a phrase, which then has at least seven bytes; a short phrase is told by its first four.
+fn may_lead(phrase: &[u8]) -> bool
+    ensures { λ r. ⌜ MayLead (now (phrase .entry)) r ⌝ }
 {
-    if number < 2 {
-        return Wrapper::Eve;
+    if phrase.len() > 12 {
+        return true;
     }
-    if number < 3 {
-        return Wrapper::Morrow;
+    if phrase.len() < 4 {
+        return false;
     }
-    if number < 4 {
-        return Wrapper::Octave;
+    if phrase[3] != b' ' {
+        if four_at(phrase, 0) != 0x72726f6d {
+            if four_at(phrase, 0) != 0x6174636f {
+                return false;
+            }
+        }
     }
-    if number < 11 {
-        return Wrapper::First(Side::After, (number - 3) as u64);
-    }
-    Wrapper::First(Side::Before, (number - 10) as u64)
-}
-
-// How many bytes the word of a side takes at the start; 0 where it does not stand there.
-fn side_taken(text: &[u8], side: Side) -> usize
-    ensures { λ r. ⌜ r ≡ taken (sideWord side) (now (text .entry)) ⌝ }
-{
-    match side {
-        Side::After => word_taken(text, b" after "),
-        Side::Before => word_taken(text, b" before "),
-    }
-}
-
-// How many bytes a weekday and the word of a side take at the start; 0 where they do not stand there.
-fn weekday_taken(text: &[u8], side: Side, weekday: u64) -> usize
-    requires { ⌜ (1 ≤ weekday) × (weekday ≤ 7) ⌝ }
-    ensures { λ r. ⌜ r ≡ taken (weekdayWord weekday ++ sideWord side) (now (text .entry)) ⌝ }
-{
-    if text.len() < 3 {
-        return 0;
-    }
-    let weekdays: &[u8] = b"montuewedthufrisatsun";
-    let end = 3 * weekday as usize;
-    let start = end - 3;
-    if !starts_with(text, &weekdays[start..end]) {
-        return 0;
-    }
-    let length = side_taken(&text[3..], side);
-    if length == 0 {
-        return 0;
-    }
-    3 + length
-}
-
-// How many bytes a wrapper's words take at the start; 0 where they do not stand there.
-fn wrapper_taken(text: &[u8], wrapper: Wrapper) -> usize
-    requires { ⌜ GoodWrapper wrapper ⌝ }
-    ensures { λ r. ⌜ r ≡ taken (wrapperWords wrapper) (now (text .entry)) ⌝ }
-{
-    match wrapper {
-        Wrapper::Eve => word_taken(text, b"eve of "),
-        Wrapper::Morrow => word_taken(text, b"morrow of "),
-        Wrapper::Octave => word_taken(text, b"octave of "),
-        Wrapper::First(side, weekday) => weekday_taken(text, side, weekday),
-    }
+    phrase.len() > 6
 }
 
 // The wrapper that a phrase begins with.
-pub fn lead_of(phrase: &[u8]) -> Lead
-    ensures { λ r. ⌜ Told leadings lead Plain (now (phrase .entry)) r ⌝ }
+pub fn lead_of(phrase: &[u8]) -> Found
+    ensures { λ r. ⌜ Told leadings lead Plain (now (phrase .entry)) (leadOf r) ⌝ }
+    ensures { λ r. ⌜ r .number ≤ 17 ⌝ }
 {
-    let number = wrapper_guess(phrase);
-    if number == 0 {
-        return Lead::Plain;
+    if !may_lead(phrase) {
+        return Found {
+            number: 0,
+            length: 0,
+        };
     }
-    let wrapper = wrapper_of(number);
-    let length = wrapper_taken(phrase, wrapper);
-    if length == 0 {
-        return Lead::Plain;
+    let length = length_by(phrase[3], phrase[4]);
+    if phrase.len() < length {
+        return Found {
+            number: 0,
+            length: 0,
+        };
     }
-    Lead::Wrapped(wrapper, length)
+    let slot = slot(phrase[0], phrase[1], phrase[4]);
+    let inner = inner_in(slot);
+    if !is_word(phrase, length, outer_in(slot), inner % 1099511627776) {
+        return Found {
+            number: 0,
+            length: 0,
+        };
+    }
+    Found {
+        number: inner / 1099511627776,
+        length,
+    }
 }

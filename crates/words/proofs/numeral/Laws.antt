@@ -1,5 +1,5 @@
 -- Numerals: what they are made of, by tests that antt computes at each number, and how one grows by a digit.
-use mathlib.Core.Bool.{Bool, true, false, _&&_, _||_, cond, and-eq-true-iff}
+use mathlib.Core.Bool.{Bool, true, false, _||_, cond}
 use mathlib.Core.List.{List, [], _∷_, _++_}
 use mathlib.Core.Path.{_≡_, refl, sym, _∙_, ap, subst}
 use Prim.Native.Nat.{ℕ, zero, suc, _+_, _-_, _*_, _/_, _%_, _<_, _≤_}
@@ -9,18 +9,14 @@ use native.Mathlib.Omega.{arith}
 use lib.Dec.{eqb, ltb}
 use lib.ListN.{length, take, getD, length-append}
 use lib.Seq.{length-take-le, take-all, take-suc}
-use borrow.Author.Tests.{eqb-true, ne-eqb, ltb-true, lt-ltb, le-ltb}
-use Rattle.calendar.proofs.range.Laws.{range}
+use borrow.Author.Tests.{eqb-true, ltb-true, lt-ltb, le-ltb}
 use Rattle.words.proofs.Tests.{tested}
 use Rattle.words.proofs.Told.{OneReading}
+use Rattle.words.proofs.text.Laws.{within, within-at, within-lacks}
 use Rattle.calendar.specs.Range.{between}
 use Rattle.words.specs.Numeral.{digit, decimal, numeral, YearDigits, numerals}
 use Rattle.words.specs.Text.{has}
 use Rattle.words.specs.Told.{Told, produced, unproduced}
-
-allDigits : List ℕ → Bool
-allDigits [] = true
-allDigits (x ∷ s) = between 48 x 57 && allDigits s
 
 -- the number that a numeral stands for
 value : ℕ → List ℕ → ℕ
@@ -31,14 +27,14 @@ value v (x ∷ s) = value (10 * v + (x - 48)) s
 made : ℕ → List Bool
 made n =
     let s = numeral n in
-    allDigits s ∷ ltb 48 (getD s 0 0) ∷ (ltb n 1000 || ltb 3 (length s)) ∷ eqb (value 0 s) n ∷ []
+    within 48 57 s ∷ ltb 48 (getD s 0 0) ∷ (ltb n 1000 || ltb 3 (length s)) ∷ eqb (value 0 s) n ∷ []
 
 module _ (n : ℕ) (low : 1 ≤ n) (high : n ≤ 9999) where
   all-made : (i : ℕ) → getD (made n) i true ≡ true
-  unfolding made allDigits value decimal between
+  unfolding made within value decimal between
   all-made i = tested made 9999 tt n low high i
 
-  all-digits : allDigits (numeral n) ≡ true
+  all-digits : within 48 57 (numeral n) ≡ true
   unfolding made
   all-digits = all-made 0
 
@@ -54,12 +50,6 @@ module _ (n : ℕ) (low : 1 ≤ n) (high : n ≤ 9999) where
         | yes l ↦ omega arith
         | no l ↦ absurd (omega (arith, ltb-true 3 (length (numeral n)) (rw (le-ltb n 1000 (omega arith)) at (all-made 2))))
       ]
-
-digit-at : (s : List ℕ) → allDigits s ≡ true → (i : ℕ) → i < length s → (48 ≤ getD s i 0) × (getD s i 0 ≤ 57)
-unfolding allDigits
-digit-at [] e i h = absurd (omega arith)
-digit-at (x ∷ s) e zero h = range 48 x 57 (and-eq-true-iff (between 48 x 57) (allDigits s) .0 e .0)
-digit-at (x ∷ s) e (suc i) h = digit-at s (and-eq-true-iff (between 48 x 57) (allDigits s) .0 e .1) i (omega arith)
 
 pub one-number : (n m : ℕ) → 1 ≤ n → n ≤ 9999 → 1 ≤ m → m ≤ 9999 → numeral n ≡ numeral m → n ≡ m
 one-number n m ln hn lm hm e = sym (stands-for n ln hn) ∙ ap (value 0) e ∙ stands-for m lm hm
@@ -145,7 +135,7 @@ pub numeral-digits : (n : ℕ) → 1 ≤ n → n ≤ 9999 → YearDigits (numera
 unfolding made
 numeral-digits n low high =
     let f = ltb-true 48 (getD (numeral n) 0 0) (all-made n low high 1) in
-    record { some = numeral-length n .0; few = four-digits n high; digits = digit-at (numeral n) (all-digits n low high); first = λ e. omega arith }
+    record { some = numeral-length n .0; few = four-digits n high; digits = within-at 48 57 (numeral n) (all-digits n low high); first = λ e. omega arith }
 
 pub no-numeral : (high : ℕ) (s : List ℕ) → (YearDigits s → ⊥) → Told (numerals high) (λ n. n) 0 s 0
 no-numeral high s bad = unproduced (λ n g e. bad (subst YearDigits e (numeral-digits n (g .0) (omega (arith, g))))) refl
@@ -188,6 +178,28 @@ module _ {s : List ℕ} {n i : ℕ} (p : Sofar s n i) where
     above top h =
         unproduced (λ k g f. let same = one-number k n (g .0) (omega (arith, g)) (p .low) (p .high) (f ∙ sym whole) in omega (arith, g)) refl
 
+-- four digits, the first not 0
+abbrev pub FourDigits : ℕ → ℕ → ℕ → ℕ → Type 0
+FourDigits w x y z = ((49 ≤ w) × (w ≤ 57)) × ((48 ≤ x) × (x ≤ 57)) × ((48 ≤ y) × (y ≤ 57)) × ((48 ≤ z) × (z ≤ 57))
+
+module _ (w x y z : ℕ) where
+  abbrev bytes : List ℕ
+  bytes = w ∷ x ∷ y ∷ z ∷ []
+
+  pub no-four : (FourDigits w x y z → ⊥) → Told (numerals 9999) (λ k. k) 0 bytes 0
+  no-four bad =
+      no-numeral 9999 bytes (λ l.
+      let at = l .digits in
+      bad (omega (arith, l .first, at 0 (omega arith), at 1 (omega arith), at 2 (omega arith), at 3 (omega arith))))
+
+  pub four-read : (n : ℕ) → FourDigits w x y z → n ≡ 1000 * (w - 48) + 100 * (x - 48) + 10 * (y - 48) + (z - 48)
+      → Told (numerals 9999) (λ k. k) 0 bytes n
+  four-read n d e =
+      let two = longer (begun bytes (omega arith) (omega arith) (d .0 .0) (d .0 .1)) (omega arith) (d .1 .0) (d .1 .1) in
+      let all = longer (longer two (omega arith) (d .2 .0) (d .2 .1)) (omega arith) (d .3 .0) (d .3 .1) in
+      let same : n ≡ 10 * (10 * (10 * (w - 48) + (x - 48)) + (y - 48)) + (z - 48) = omega arith in
+      rw same (read all (omega arith) 9999 (all .high))
+
 -- the first suc i of such digits are a numeral
 pub digits-read : {s : List ℕ} → YearDigits s → (i : ℕ) → i < length s → (n : ℕ) × Sofar s n (i + 1)
 digits-read {s} d zero h =
@@ -200,13 +212,5 @@ digits-read {s} d (suc i) h =
     (10 * k .0 + (getD s (suc i) 0 - 48), longer (rw add-one at (k .1)) h (x .0) (x .1))
 
 -- ---- what stands in no numeral
-no-digit : (c : ℕ) (s : List ℕ) → c < 48 → allDigits s ≡ true → has c s ≡ false
-unfolding has allDigits
-no-digit c [] h e = refl
-no-digit c (x ∷ s) h e =
-    let b = and-eq-true-iff (between 48 x 57) (allDigits s) .0 e in
-    let d = range 48 x 57 (b .0) in
-    rw (ne-eqb x c (omega arith)) (no-digit c s h (b .1))
-
 pub numeral-lacks : (c n : ℕ) → c < 48 → 1 ≤ n → n ≤ 9999 → has c (numeral n) ≡ false
-numeral-lacks c n h low high = no-digit c (numeral n) h (all-digits n low high)
+numeral-lacks c n h low high = within-lacks 48 57 c (numeral n) h (all-digits n low high)

@@ -1,17 +1,17 @@
--- Words at the start of bytes, and bytes cut behind the last of a kind.
-use mathlib.Core.Bool.{Bool, true, false, _&&_, _||_, and-false, or-true, and-assoc, and-eq-true-iff}
-use mathlib.Core.List.{List, [], _∷_, _++_, append-nil}
+-- Bytes within bounds, and bytes cut behind the last of a kind.
+use mathlib.Core.Bool.{Bool, true, false, _&&_, _||_, or-true, and-eq-true-iff}
+use mathlib.Core.List.{List, [], _∷_, _++_}
 use mathlib.Core.Logic.{_⊎_, inl, inr}
 use mathlib.Core.Path.{_≡_, refl, sym, _∙_, ap, ap₂}
-use Prim.Native.Nat.{ℕ, suc, _+_, _-_, _<_, _≤_}
+use Prim.Native.Nat.{ℕ, zero, suc, _-_, _<_, _≤_}
 use native.Mathlib.Decide.{decLt}
-use native.Mathlib.Numerals.{add-one}
 use native.Mathlib.Omega.{arith}
 use lib.Dec.{eqb}
-use lib.ListN.{length, take, drop, getD, length-drop, take-append-drop, drop-of-length-le, List·getD-append}
+use lib.ListN.{length, take, drop, getD, length-drop, take-append-drop}
 use lib.Seq.{drop-cons, drop-length, split-at, take-all}
-use borrow.Author.Tests.{eq-eqb, ne-eqb, eqb-true}
-use Rattle.words.specs.Steps.{starts, taken}
+use borrow.Author.Tests.{eq-eqb, ne-eqb}
+use Rattle.calendar.proofs.range.Laws.{range}
+use Rattle.calendar.specs.Range.{between}
 use Rattle.words.specs.Text.{has, BehindLast}
 
 pub no-false : {A : Type 0} → true ≡ false → A
@@ -25,70 +25,25 @@ pub neither : (a : Bool) {b : Bool} → (a || b) ≡ false → (a ≡ false) × 
 neither true h = no-false h
 neither false h = (refl, h)
 
--- ---- what stands at the start
-pub too-short : (w s : List ℕ) → length s < length w → starts w s ≡ false
-unfolding starts
-too-short [] [] h = absurd (omega arith)
-too-short [] (y ∷ s) h = absurd (omega arith)
-too-short (x ∷ w) [] h = refl
-too-short (x ∷ w) (y ∷ s) h = rw (too-short w s (omega arith)) (and-false (eqb x y))
+-- ---- bytes within bounds
+unfoldable pub within : ℕ → ℕ → List ℕ → Bool
+within low high [] = true
+within low high (x ∷ s) = between low x high && within low high s
 
-module _ (w s : List ℕ) (i : ℕ) (hw : i < length w) (hs : i < length s) where
-  pub differ : (getD s i 0 ≡ getD w i 0 → ⊥) → starts (drop i w) (drop i s) ≡ false
-  unfolding starts
-  differ n = rw (drop-cons w i 0, drop-cons s i 0, ne-eqb (getD w i 0) (getD s i 0) (λ e. n (sym e)))
+module _ (low high : ℕ) where
+  pub within-at : (s : List ℕ) → within low high s ≡ true → (i : ℕ) → i < length s → (low ≤ getD s i 0) × (getD s i 0 ≤ high)
+  unfolding within
+  within-at [] e i h = absurd (omega arith)
+  within-at (x ∷ s) e zero h = range low x high (and-eq-true-iff (between low x high) (within low high s) .0 e .0)
+  within-at (x ∷ s) e (suc i) h = within-at s (and-eq-true-iff (between low x high) (within low high s) .0 e .1) i (omega arith)
 
-  pub agree : getD s i 0 ≡ getD w i 0 → starts (drop i w) (drop i s) ≡ starts (drop (i + 1) w) (drop (i + 1) s)
-  unfolding starts
-  agree e = rw (add-one, drop-cons w i 0, drop-cons s i 0, eq-eqb (getD w i 0) (getD s i 0) (sym e))
-
-pub compared : (w s : List ℕ) (i : ℕ) → length w ≤ i → starts (drop i w) s ≡ true
-unfolding starts
-compared w s i h = rw (drop-of-length-le w h)
-
-pub starts-append : (w t : List ℕ) → starts w (w ++ t) ≡ true
-unfolding starts
-starts-append [] t = refl
-starts-append (x ∷ w) t = rw (eq-eqb x x refl) (starts-append w t)
-
-pub begun : (w s : List ℕ) → starts w s ≡ true → w ++ drop (length w) s ≡ s
-unfolding starts
-begun [] s e = refl
-begun (x ∷ w) [] e = no-false (sym e)
-begun (x ∷ w) (y ∷ s) e =
-    let b = and-eq-true-iff (eqb x y) (starts w s) .0 e in
-    ap₂ (λ (a : ℕ) (l : List ℕ). a ∷ l) (eqb-true x y (b .0)) (begun w s (b .1))
-
-pub same-byte : (w s : List ℕ) (i : ℕ) → starts w s ≡ true → i < length w → getD s i 0 ≡ getD w i 0
-same-byte w s i e h = rw (begun w s e) at (List·getD-append w (drop (length w) s) 0 i h)
-
-pub same-bytes : (w s : List ℕ) → starts w s ≡ true → length w ≡ length s → w ≡ s
-same-bytes w s e l =
-    let all : length s ≤ length w = omega arith in
-    let none = drop-of-length-le s all in
-    sym (append-nil w) ∙ rw none at (begun w s e)
-
-pub starts-both : (a b s : List ℕ) → starts (a ++ b) s ≡ (starts a s && starts b (drop (length a) s))
-unfolding starts
-starts-both [] b s = refl
-starts-both (x ∷ a) b [] = refl
-starts-both (x ∷ a) b (y ∷ s) = rw (starts-both a b s) (sym (and-assoc (eqb x y) (starts a s) (starts b (drop (length a) s))))
-
--- what is taken tells whether the word stands there
-module _ (w s : List ℕ) where
-  pub stands-not : 1 ≤ length w → taken w s ≡ 0 → starts w s ≡ false
-  stands-not some e =
-      elim (either (starts w s)) [
-        | inl h ↦ absurd (omega (arith, rw h at e))
-        | inr h ↦ h
-      ]
-
-  pub stands : (taken w s ≡ 0 → ⊥) → (starts w s ≡ true) × (taken w s ≡ length w)
-  stands some =
-      elim (either (starts w s)) [
-        | inl h ↦ (h, rw h)
-        | inr h ↦ absurd (some (rw h))
-      ]
+  pub within-lacks : (c : ℕ) (s : List ℕ) → c < low → within low high s ≡ true → has c s ≡ false
+  unfolding has within
+  within-lacks c [] h e = refl
+  within-lacks c (x ∷ s) h e =
+      let b = and-eq-true-iff (between low x high) (within low high s) .0 e in
+      let d = range low x high (b .0) in
+      rw (ne-eqb x c (omega arith)) (within-lacks c s h (b .1))
 
 -- ---- what a byte does not stand in
 pub has-append : (c : ℕ) (a b : List ℕ) → has c a ≡ false → has c b ≡ false → has c (a ++ b) ≡ false

@@ -1,23 +1,25 @@
--- Wrappers: by their numbers, told apart by three bytes, and each ends in a space.
-use mathlib.Core.Bool.{Bool, true, false, cond, and-false}
+-- Wrappers: by their numbers, each with its slot alone, and each ends in a space.
+use mathlib.Core.Bool.{Bool, true, false, _&&_, _||_, cond, not}
 use mathlib.Core.List.{List, [], _∷_, _++_, append-assoc}
 use mathlib.Core.Path.{_≡_, refl, sym, _∙_, ap, ap₂}
-use Prim.Native.Nat.{ℕ, _+_, _-_, _*_, _%_, _<_, _≤_}
+use Prim.Native.Char.{code}
+use Prim.Native.Nat.{ℕ, suc, _+_, _-_, _/_, _%_, _<_, _≤_}
 use native.Mathlib.Omega.{arith}
-use lib.Dec.{eqb, leb, ltb, leb→le}
-use lib.ListN.{length, take, drop, getD, length-append}
+use lib.Dec.{T, eqb, leb, ltb}
+use lib.ListN.{length, drop, getD, length-append, List·getD-append}
 use lib.Seq.{drop-append-seam}
-use borrow.Author.Tests.{eqb-true, leb-true, ltb-true, ltb-false, lt-ltb, le-ltb}
-use Rattle.calendar.proofs.Each.{below}
-use Rattle.words.proofs.Tests.{tested, slots}
+use borrow.Author.Tests.{eqb-true, ne-eqb, leb-true, ltb-true, ltb-false, lt-ltb, le-ltb}
+use Rattle.calendar.proofs.Each.{each}
+use Rattle.words.proofs.Slots.{Bytes, four-append, Others, no-slot, worded, one-slot, is-it, not-it}
+use Rattle.words.proofs.Tests.{every, tested}
 use Rattle.words.proofs.Told.{OneReading}
-use Rattle.words.proofs.text.Laws.{no-false, too-short, begun, same-byte, same-bytes, starts-append, starts-both, stands, stands-not}
-use Rattle.words.specs.Steps.{starts, taken, Guess, wrapperOf}
-use Rattle.words.specs.Text.{bytes, space}
+use Rattle.words.proofs.text.Laws.{no-false, within}
+use Rattle.calendar.specs.Range.{between}
+use Rattle.words.specs.Steps.{four, outerOf, innerOf, held, outerIn, innerIn, wrapperSlot, wordsOf, Wordless, MayLead, lengthBy}
+use Rattle.words.specs.Text.{bytes, space, has}
 use Rattle.words.specs.Told.{Told, produced, unproduced}
-use Rattle.words.specs.Wrapper.{weekdayWord, sideWord, wrapperWords, GoodWrapper, leadings, lead}
+use Rattle.words.specs.Wrapper.{weekdayWord, wrapperWords, GoodWrapper, leadings, lead, wrapperOf, leadOf}
 use Rattle.calendar.specs.declared.weekday.Side.the-variants.{After, Before}
-use Rattle.calendar.specs.declared.weekday.Side.{Side}
 use Rattle.words.specs.declared.wrapper.Lead.the-variants.{Wrapped, Plain}
 use Rattle.words.specs.declared.wrapper.Wrapper.the-variants.{Eve, Morrow, Octave, First}
 use Rattle.words.specs.declared.wrapper.Wrapper.{Wrapper}
@@ -31,7 +33,7 @@ numberOf (First After w) = w + 3
 numberOf (First Before w) = w + 10
 
 -- from 4 on they are a weekday's
-pub from-four : (n : ℕ) → 4 ≤ n → wrapperOf n ≡ cond (ltb n 11) (First After (n - 3)) (First Before (n - 10))
+from-four : (n : ℕ) → 4 ≤ n → wrapperOf n ≡ cond (ltb n 11) (First After (n - 3)) (First Before (n - 10))
 from-four n h = rw (le-ltb n 2 (omega arith), le-ltb n 3 (omega arith), le-ltb n 4 h)
 
 numbered : (w : Wrapper) → GoodWrapper w → ((1 ≤ numberOf w) × (numberOf w ≤ 17)) × (wrapperOf (numberOf w) ≡ w)
@@ -57,47 +59,121 @@ good-number n h = go (ltb n 2) (ltb n 3) (ltb n 4) (ltb n 11) refl refl
     go false false false true p q = (omega (arith, ltb-false n 4 p), omega (arith, ltb-true n 11 q))
     go false false false false p q = (omega (arith, ltb-false n 11 q), omega arith)
 
--- ---- one wrapper alone may stand at the start, told by three bytes
-abbrev pub slotOf : List ℕ → ℕ
-slotOf s = (2 * getD s 0 0 + 4 * getD s 1 0 + getD s 4 0) % 32
+-- ---- the words of a wrapper by their slot
+all-worded : T (each (λ k. every (worded wrapperSlot wordsOf 17 32 (suc k))) 17)
+unfolding worded held within between
+all-worded = tt
 
-abbrev pub wrapperAt : List ℕ
-wrapperAt = slots (λ n. slotOf (wrapperWords (wrapperOf n))) 32 17
+-- the slots of the words, the last first
+abbrev pub wrapperKeys : List ℕ
+wrapperKeys = 30 ∷ 29 ∷ 28 ∷ 27 ∷ 24 ∷ 23 ∷ 22 ∷ 21 ∷ 17 ∷ 12 ∷ 11 ∷ 10 ∷ 9 ∷ 5 ∷ 4 ∷ 3 ∷ 0 ∷ []
 
-slotted : ℕ → List Bool
-slotted n = eqb (getD wrapperAt (slotOf (wrapperWords (wrapperOf n))) 0) n ∷ leb 5 (length (wrapperWords (wrapperOf n))) ∷ []
+pub no-wrapper : (f : ℕ → ℕ) (i : ℕ) → Others wrapperKeys i → 0 ≡ held (λ k. wrapperSlot (wordsOf k)) f 17 i
+unfolding has
+no-wrapper f i o = no-slot (λ k. wrapperSlot (wordsOf k)) f 17 wrapperKeys tt i o
 
-module _ (n : ℕ) (low : 1 ≤ n) (high : n ≤ 17) where
-  its-slot : getD wrapperAt (slotOf (wrapperWords (wrapperOf n))) 0 ≡ n
-  unfolding slotted
-  its-slot = eqb-true _ n (tested slotted 17 tt n low high 0)
+-- ---- what the first bytes tell
+led : ℕ → List Bool
+led n =
+    let w = wordsOf n in
+    leb 7 (length w)
+    ∷ eqb (lengthBy (getD w 3 0) (getD w 4 0)) (length w)
+    ∷ (eqb (getD w 3 0) space || (eqb (four w 0) (four (bytes "morr") 0) || eqb (four w 0) (four (bytes "octa") 0)))
+    ∷ []
 
-  five-bytes : 5 ≤ length (wrapperWords (wrapperOf n))
-  unfolding slotted
-  five-bytes = leb-true 5 (length (wrapperWords (wrapperOf n))) (tested slotted 17 tt n low high 1)
+module _ (n : ℕ) (good : (1 ≤ n) × (n ≤ 17)) (t : List ℕ) {s : List ℕ} (e : wordsOf n ++ t ≡ s) where
+  all-led : (i : ℕ) → getD (led n) i true ≡ true
+  unfolding led four
+  all-led i = tested led 17 tt n (good .0) (good .1) i
 
-abbrev pub Begins : List ℕ → ℕ → Type 0
-Begins s n = starts (wrapperWords (wrapperOf n)) s ≡ true
+  seven-bytes : 7 ≤ length (wordsOf n)
+  unfolding led
+  seven-bytes = leb-true 7 (length (wordsOf n)) (all-led 0)
 
-pub guess-small : (i : ℕ) → i < 32 → getD wrapperAt i 0 ≤ 17
-guess-small i h = leb→le (getD wrapperAt i 0) 17 (below (λ i. leb (getD wrapperAt i 0) 17) 32 tt i h)
+  there : length (wordsOf n) ≤ length s
+  there = let l = ap length (sym e) ∙ length-append (wordsOf n) t in omega arith
 
-pub guess : (s : List ℕ) → Guess 17 (Begins s) (getD wrapperAt (slotOf s) 0)
-guess s = record {
-  small = guess-small (slotOf s) (omega arith);
-  only = λ n low high e.
-      let w = wrapperWords (wrapperOf n) in
-      let long = five-bytes n low high in
-      rw (same-byte w s 0 e (omega arith), same-byte w s 1 e (omega arith), same-byte w s 4 e (omega arith)) (its-slot n low high);
-}
+  same-byte : (i : ℕ) → i < 7 → getD s i 0 ≡ getD (wordsOf n) i 0
+  same-byte i h = rw e at (List·getD-append (wordsOf n) t 0 i (omega (arith, seven-bytes)))
 
-pub no-guess : (s : List ℕ) → length s < 5 → Guess 17 (Begins s) 0
-no-guess s h = record {
-  small = omega arith;
-  only = λ n low high e.
-      let long = five-bytes n low high in
-      no-false (sym e ∙ too-short (wrapperWords (wrapperOf n)) s (omega arith));
-}
+  same-slot : wrapperSlot s ≡ wrapperSlot (wordsOf n)
+  same-slot = rw (same-byte 0 (omega arith), same-byte 1 (omega arith), same-byte 4 (omega arith))
+
+  its-length : lengthBy (getD s 3 0) (getD s 4 0) ≡ length (wordsOf n)
+  unfolding led
+  its-length = rw (same-byte 3 (omega arith), same-byte 4 (omega arith)) (eqb-true _ _ (all-led 1))
+
+pub too-short : (s : List ℕ) → length s < 7 → Wordless s
+too-short s h n low high t e = omega (arith, there n (low, high) t e, seven-bytes n (low, high) t e)
+
+pub long-enough : (s : List ℕ) → MayLead s (ltb 6 (length s))
+long-enough s = go (ltb 6 (length s)) refl
+  where
+    go : (b : Bool) → ltb 6 (length s) ≡ b → MayLead s b
+    go true e = ltb-true 6 (length s) e
+    go false e = too-short s (omega (arith, ltb-false 6 (length s) e))
+
+pub not-led : (s : List ℕ) → (getD s 3 0 ≡ space → ⊥) → (four s 0 ≡ four (bytes "morr") 0 → ⊥) → (four s 0 ≡ four (bytes "octa") 0 → ⊥) → Wordless s
+unfolding led
+not-led s a b c n low high t e =
+    let w = wordsOf n in
+    let f : four s 0 ≡ four w 0 = rw e at (four-append w t 0 (omega (arith, seven-bytes n (low, high) t e))) in
+    let x = ne-eqb (getD w 3 0) space (λ z. a (same-byte n (low, high) t e 3 (omega arith) ∙ z)) in
+    let y = ne-eqb (four w 0) (four (bytes "morr") 0) (λ z. b (f ∙ z)) in
+    let z = ne-eqb (four w 0) (four (bytes "octa") 0) (λ z. c (f ∙ z)) in
+    no-false (sym (rw (x, y, z) at (all-led n (low, high) t e 2)))
+
+module _ (s : List ℕ) {k : ℕ} (count : k ≡ lengthBy (getD s 3 0) (getD s 4 0)) where
+  pub no-room : length s < k → Wordless s
+  no-room h n low high t e = omega (arith, its-length n (low, high) t e, there n (low, high) t e)
+
+  pub inside : k ≤ length s → (4 ≤ k) × (k ≤ 12) × (k ≤ length s)
+  inside fits = go (eqb (getD s 3 0) space) (eqb (getD s 4 0) (code "o")) (eqb (getD s 4 0) (code "b")) count
+    where
+      go : (a b c : Bool) → k ≡ cond a (cond b 7 (cond c 11 10)) 10 → (4 ≤ k) × (k ≤ 12) × (k ≤ length s)
+      go true true c e = omega arith
+      go true false true e = omega arith
+      go true false false e = omega arith
+      go false b c e = omega arith
+
+-- ---- what a phrase begins with
+pub plain : {s : List ℕ} → Wordless s → Told leadings lead Plain s Plain
+plain none =
+    unproduced (λ x good e.
+    let n = numbered (x .wrapper) good in
+    none (numberOf (x .wrapper)) (n .0 .0) (n .0 .1) (x .rest) (rw (n .1) e)) refl
+
+module _ (s : List ℕ) (bytes : Bytes s) {k o m : ℕ} (count : k ≡ lengthBy (getD s 3 0) (getD s 4 0)) (fits : k ≤ length s)
+    (ho : o ≡ outerIn wrapperSlot wordsOf 17 (wrapperSlot s)) (hm : m ≡ innerIn wrapperSlot wordsOf 17 (wrapperSlot s))
+    {r : Bool} (test : r ≡ (eqb (outerOf s k) o && eqb (innerOf s k) (m % 1099511627776))) where
+  pub no-words : not r ≡ true → Told leadings lead Plain s Plain × (0 ≤ 17)
+  no-words p = (
+    plain (λ n low high t e.
+        not-it wrapperSlot wordsOf 17 32 all-worded bytes (wrapperSlot s) (inside s count fits) ho hm test p n (low, high)
+        (same-slot n (low, high) t e) (count ∙ its-length n (low, high) t e) t e),
+    omega arith,
+  )
+
+  pub these-words : not r ≡ false
+      → Told leadings lead Plain s (leadOf (record { number = m / 1099511627776; length = k })) × (m / 1099511627776 ≤ 17)
+  these-words p =
+      let q = m / 1099511627776 in
+      let h = is-it wrapperSlot wordsOf 17 32 all-worded bytes (wrapperSlot s) (inside s count fits) ho hm test p in
+      let some = ne-eqb q 0 (omega (arith, h .0)) in
+      (rw some (produced (record { wrapper = wrapperOf q; rest = drop k s }) (good-number q (h .0 .1)) (h .2) (ap (Wrapped (wrapperOf q)) (h .1))), h .0 .1)
+
+-- no wrapper's words begin another's, so what stands behind them is told too
+pub one-wrapper : (v w : Wrapper) (a b : List ℕ) → GoodWrapper v → GoodWrapper w
+    → wrapperWords v ++ a ≡ wrapperWords w ++ b → (v ≡ w) × (a ≡ b)
+one-wrapper v w a b gv gw e =
+    let n = numbered v gv in
+    let m = numbered w gw in
+    let first = same-slot (numberOf v) (n .0) a {s = wrapperWords w ++ b} (rw (n .1) e) in
+    let second = same-slot (numberOf w) (m .0) b {s = wrapperWords w ++ b} (rw (m .1)) in
+    let number = one-slot wrapperSlot wordsOf 17 32 all-worded (numberOf v) (numberOf w) (n .0) (m .0) (sym first ∙ second) in
+    let same = sym (n .1) ∙ ap wrapperOf number ∙ m .1 in
+    let behind = ap (drop (length (wrapperWords w))) (rw same at e) in
+    (same, sym (drop-append-seam (wrapperWords w) a) ∙ behind ∙ drop-append-seam (wrapperWords w) b)
 
 -- ---- a wrapper's words end in a space
 pub spaced : (w : Wrapper) → (x : List ℕ) × (wrapperWords w ≡ x ++ space ∷ [])
@@ -110,105 +186,7 @@ spaced (First Before n) = (weekdayWord n ++ bytes " before", sym (append-assoc (
 pub words-some : (w : Wrapper) → 1 ≤ length (wrapperWords w)
 words-some w = let l = ap length (spaced w .1) ∙ length-append (spaced w .0) (space ∷ []) in omega arith
 
--- ---- what a phrase begins with, by the word that is taken from it
-module _ (s : List ℕ) {r : ℕ} (g : Guess 17 (Begins s) r) where
-  -- a wrapper that stands at the start is the guessed one
-  known : (w : Wrapper) (t : List ℕ) → GoodWrapper w → wrapperWords w ++ t ≡ s → (1 ≤ r) × (w ≡ wrapperOf r)
-  known w t good e =
-      let n = numbered w good in
-      let begins : Begins s (numberOf w) = rw (n .1, ← e) (starts-append (wrapperWords w) t) in
-      let same = g .only (numberOf w) (n .0 .0) (n .0 .1) begins in
-      rw same (n .0 .0, sym (n .1))
-
-  pub lead-plain : (1 ≤ r → taken (wrapperWords (wrapperOf r)) s ≡ 0) → Told leadings lead Plain s Plain
-  lead-plain none =
-      unproduced (λ x good e.
-      let k = known (x .wrapper) (x .rest) good e in
-      let differs = stands-not (wrapperWords (wrapperOf r)) s (words-some (wrapperOf r)) (none (k .0)) in
-      no-false (sym (starts-append (wrapperWords (x .wrapper)) (x .rest)) ∙ rw (← k .1, ← e) at differs)) refl
-
-  module _ {w : Wrapper} {n : ℕ} (is : w ≡ wrapperOf r) (count : n ≡ taken (wrapperWords w) s) where
-    pub none-taken : n ≡ 0 → Told leadings lead Plain s Plain
-    none-taken z = lead-plain (λ low. rw is at (sym count ∙ z))
-
-    pub lead-wrapped : (n ≡ 0 → ⊥) → Told leadings lead Plain s (Wrapped w n)
-    lead-wrapped some =
-        let there = stands (wrapperWords w) s (λ z. some (count ∙ z)) in
-        let rest = drop (length (wrapperWords w)) s in
-        produced (record { wrapper = w; rest = rest }) (rw is (good-number r (g .small))) (begun (wrapperWords w) s (there .0))
-        (ap (Wrapped w) (count ∙ there .1))
-
--- no wrapper's words begin another's, so what stands behind them is told too
-pub one-wrapper : (v w : Wrapper) (a b : List ℕ) → GoodWrapper v → GoodWrapper w
-    → wrapperWords v ++ a ≡ wrapperWords w ++ b → (v ≡ w) × (a ≡ b)
-one-wrapper v w a b gv gw e =
-    let s = wrapperWords w ++ b in
-    let same = known s (guess s) v a gv e .1 ∙ sym (known s (guess s) w b gw refl .1) in
-    let behind = ap (drop (length (wrapperWords w))) (rw same at e) in
-    (same, sym (drop-append-seam (wrapperWords w) a) ∙ behind ∙ drop-append-seam (wrapperWords w) b)
-
 pub one-leading : OneReading leadings
 one-leading x y g h e =
     let same = one-wrapper (x .wrapper) (y .wrapper) (x .rest) (y .rest) g h e in
     ap₂ (λ (w : Wrapper) (t : List ℕ). record { wrapper = w; rest = t }) (same .0) (same .1)
-
--- ---- a weekday before the words of a side
-abbrev pub weekdays : List ℕ
-weekdays = bytes "montuewedthufrisatsun"
-
-abbrev pub cutWeekday : ℕ → List ℕ
-cutWeekday w = take (3 * w - (3 * w - 3)) (drop (3 * w - 3) weekdays)
-
-weekday-found : ℕ → List Bool
-weekday-found w = starts (cutWeekday w) (weekdayWord w) ∷ eqb (length (cutWeekday w)) (length (weekdayWord w)) ∷ eqb (length (weekdayWord w)) 3 ∷ []
-
-side-some : (x : Side) → 1 ≤ length (sideWord x)
-side-some After = omega arith
-side-some Before = omega arith
-
-pub side-small : (x : Side) (s : List ℕ) (n : ℕ) → n ≡ taken (sideWord x) s → n ≤ 8
-side-small x s n e = rw e (go x (starts (sideWord x) s))
-  where
-    go : (x : Side) (b : Bool) → cond b (length (sideWord x)) 0 ≤ 8
-    go After true = omega arith
-    go Before true = omega arith
-    go x false = omega arith
-
-module _ (x : Side) (w : ℕ) (good : (1 ≤ w) × (w ≤ 7)) (s : List ℕ) where
-  its-weekday : (i : ℕ) → getD (weekday-found w) i true ≡ true
-  unfolding weekday-found starts
-  its-weekday i = tested weekday-found 7 tt w (good .0) (good .1) i
-
-  three-bytes : length (weekdayWord w) ≡ 3
-  unfolding weekday-found
-  three-bytes = eqb-true _ 3 (its-weekday 2)
-
-  is-cut : cutWeekday w ≡ weekdayWord w
-  unfolding weekday-found
-  is-cut = same-bytes (cutWeekday w) (weekdayWord w) (its-weekday 0) (eqb-true _ _ (its-weekday 1))
-
-  abbrev words : List ℕ
-  words = weekdayWord w ++ sideWord x
-
-  pub weekday-short : length s < 3 → 0 ≡ taken words s
-  weekday-short h =
-      let long = length-append (weekdayWord w) (sideWord x) in
-      let three = three-bytes in
-      rw (too-short words s (omega arith))
-
-  pub no-weekday : starts (cutWeekday w) s ≡ false → 0 ≡ taken words s
-  no-weekday e = rw (starts-both (weekdayWord w) (sideWord x) s, rw is-cut at e)
-
-  module _ (n : ℕ) (t : n ≡ taken (sideWord x) (drop 3 s)) where
-    pub no-side : n ≡ 0 → 0 ≡ taken words s
-    no-side z =
-        let e = stands-not (sideWord x) (drop 3 s) (side-some x) (sym t ∙ z) in
-        rw (starts-both (weekdayWord w) (sideWord x) s, three-bytes, e, and-false (starts (weekdayWord w) s))
-
-    pub weekday-stands : starts (cutWeekday w) s ≡ true → (n ≡ 0 → ⊥) → 3 + n ≡ taken words s
-    weekday-stands e some =
-        let there = stands (sideWord x) (drop 3 s) (λ z. some (t ∙ z)) in
-        let long = length-append (weekdayWord w) (sideWord x) in
-        let three = three-bytes in
-        let count = t ∙ there .1 in
-        rw (starts-both (weekdayWord w) (sideWord x) s, three-bytes, rw is-cut at e, there .0) (omega arith)

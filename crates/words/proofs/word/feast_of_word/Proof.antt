@@ -1,29 +1,30 @@
-use Prim.Native.Nat.{_≤_}
 use native.Mathlib.Omega.{arith}
 use borrow.Author.Needs.{needs}
-use Rattle.words.proofs.word.Laws.{guess-none, not-it, is-it}
+use Rattle.words.proofs.word.Laws.{no-length, other-word, this-word}
 use Rattle.words.proofs.word.feast_of_word.Statement.{statement}
 use Rattle.words.proofs.word.feast_of_word.Tie as tie
 
-found : (c : tie.Else1) → (1 ≤ (c .before .feast-guess .result)) × ((c .before .feast-guess .result) ≤ 48)
-found c = omega (arith, c .before .feast-guess .ensures .small)
-
-returns : tie.Need-returns
-returns c = guess-none _ (c .before .feast-guess .ensures) (c .if1 .taken)
-
-returns-2 : tie.Need-returns-2
-returns-2 c =
-    let test = c .before .is-feast-word in
-    not-it _ (c .before .before .before .feast-guess .ensures) (test .result) (test .ensures) (c .if2 .taken)
-
 returns-3 : tie.Need-returns-3
 returns-3 c =
-    let test = c .before .is-feast-word in
-    is-it _ (c .before .before .before .feast-guess .ensures) (test .result) (test .ensures) (c .if2 .left) (found (c .before .before) .0)
+    let o = c .before .before in
+    let k = o .before .before .before in
+    let slot = o .before .before .slot .ensures in
+    other-word (k .before .before .before .before .before .args .word .now) (λ i. omega (arith, k .shared-slice-known3 .given i)) (omega arith)
+    (rw slot at (o .outer-in .ensures)) (rw slot at (o .before .inner-in .ensures)) (c .before .is-word .ensures) (c .if3 .taken)
 
-is-feast-word-requires : tie.Need-is-feast-word-requires
-is-feast-word-requires c κs = omega (arith, found c)
+returns-4 : tie.Need-returns-4
+returns-4 c =
+    let o = c .before .before in
+    let k = o .before .before .before in
+    let slot = o .before .before .slot .ensures in
+    this-word (k .before .before .before .before .before .args .word .now) (λ i. omega (arith, k .shared-slice-known3 .given i)) (omega arith)
+    (rw slot at (o .outer-in .ensures)) (rw slot at (o .before .inner-in .ensures)) (c .before .is-word .ensures) (c .if3 .left)
 
 pub feast-of-word-spec : {M : Type 1} → statement M
 feast-of-word-spec =
-    tie.close (tie.spec (λ c κs. search needs) returns is-feast-word-requires returns-2 returns-3)
+    tie.close
+    (tie.spec
+    (λ c. no-length _ (λ l. omega arith)) (λ c. no-length _ (λ l. omega arith))
+    (λ c. search needs) (λ c. search needs) (λ c κs. search needs) (λ c κs. search needs) (λ c κs. search needs) (λ c κs. search needs)
+    returns-3
+    returns-4)
