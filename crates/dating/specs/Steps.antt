@@ -1,11 +1,12 @@
 -- What the private functions of the reader and the writer answer. No public promise is stated by these.
-use mathlib.Core.Bool.{true}
-use mathlib.Core.List.{List, [], _∷_, _++_}
+use mathlib.Core.Bool.{Bool, true, _||_}
+use mathlib.Core.List.{List, _++_}
 use mathlib.Core.Path.{_≡_}
-use Prim.Native.Nat.{ℕ, _+_}
+use Prim.Native.Nat.{ℕ, _+_, _-_, _*_}
+use lib.Dec.{eqb}
 use lib.ListN.{length}
 use lib.Seq.{sets}
-use Rattle.calendar.specs.Style.{styleLetter}
+use Rattle.calendar.specs.Style.{styleLetter, styleBy}
 use Rattle.church.specs.Feast.{ruleDay}
 use Rattle.words.specs.Told.{Grammar}
 use Rattle.dating.specs.Anchor.{Anchor, spellAnchor, GoodAnchor, anchorRule}
@@ -15,12 +16,24 @@ use Rattle.dating.specs.Phrase.{Phrase, spellPhrase, GoodPhrase}
 use Rattle.dating.specs.Writer.{IsDateText}
 use Rattle.calendar.specs.declared.span.DayAnswer.the-variants.{Day, NoDay}
 use Rattle.calendar.specs.declared.span.DayAnswer.{DayAnswer}
+use Rattle.calendar.specs.declared.style.Style.the-variants.{Julian, Gregorian}
 use Rattle.calendar.specs.declared.style.Style.{Style}
+use Rattle.calendar.specs.declared.weekday.Side.the-variants.{After, Before}
 use Rattle.calendar.specs.declared.year.NamedYear.{NamedYear}
+use Rattle.words.specs.declared.wrapper.Wrapper.the-variants.{Eve, Morrow, Octave, First}
+use Rattle.words.specs.declared.wrapper.Wrapper.{Wrapper}
 use Rattle.dating.specs.declared.line.Ending.{Ending}
 use Rattle.dating.specs.declared.line.Ending.the-variants.{At}
 use Rattle.dating.specs.declared.line.Reading.the-variants.{Dated, Refused}
 use Rattle.dating.specs.declared.line.Reading.{Reading}
+
+-- what a wrapper adds to a day, as one number: so many days and 8 more; 16 times the turn of a weekday; and 256 for a weekday
+abbrev pub stepOf : Wrapper → ℕ
+stepOf Eve = 7
+stepOf Morrow = 9
+stepOf Octave = 15
+stepOf (First After w) = 15 + 16 * (8 - w) + 256
+stepOf (First Before w) = 7 + 16 * (7 - w) + 256
 
 abbrev pub anchors : Grammar
 anchors = record { Tree = Anchor; Good = GoodAnchor; spell = spellAnchor }
@@ -32,8 +45,13 @@ anchorDay t a = ruleDay t (anchorRule a)
 abbrev pub phrases : Grammar
 phrases = record { Tree = Phrase; Good = GoodPhrase; spell = spellPhrase }
 
-abbrev pub letters : Grammar
-letters = record { Tree = Style; Good = λ s. Unit; spell = λ s. styleLetter s ∷ [] }
+-- the byte is the letter of a style
+abbrev pub isLetter : ℕ → Bool
+isLetter x = eqb x (styleLetter Gregorian) || eqb x (styleLetter Julian)
+
+-- the style whose letter the byte is; J for any other byte
+abbrev pub styleOfLetter : ℕ → Style
+styleOfLetter x = styleBy (eqb x (styleLetter Gregorian))
 
 -- any bytes before a year and a style letter
 pub record Ended : Type 0 where

@@ -5,7 +5,6 @@ use calendar::span::DayAnswer;
 use calendar::year::NamedYear;
 use church::feast::feast_in_year;
 use words::numeral::number_of;
-use words::text::behind_last;
 use words::word::feast_of_word;
 ghost use Rattle.calendar.specs.declared.refusal.Refusal.the-variants.{Form};
 ghost use Rattle.calendar.specs.declared.span.DayAnswer.the-variants.{NoDay};
@@ -16,15 +15,22 @@ ghost use Rattle.dating.specs.Steps.{anchors, anchorDay};
 pub(crate) fn anchor_in_year(anchor: &[u8], named: NamedYear) -> DayAnswer
     ensures { λ r. ⌜ Told anchors (anchorDay named) (NoDay Form) (now (anchor .entry)) r ⌝ }
 {
-    let feast = feast_of_word(anchor);
-    if feast > 0 {
-        return feast_in_year(named, feast);
-    }
-    let start = behind_last(anchor, b'.');
-    if start == 0 {
+    if anchor.len() < 3 {
         return DayAnswer::NoDay(Refusal::Form);
     }
-    let end = start - 1;
+    if anchor[0] > b'9' {
+        let feast = feast_of_word(anchor);
+        if feast == 0 {
+            return DayAnswer::NoDay(Refusal::Form);
+        }
+        return feast_in_year(named, feast);
+    }
+    // A day of one or two digits.
+    let end = if anchor[1] == b'.' { 1 } else { 2 };
+    if anchor[end] != b'.' {
+        return DayAnswer::NoDay(Refusal::Form);
+    }
+    let start = end + 1;
     let day = number_of(&anchor[..end], 31);
     if day == 0 {
         return DayAnswer::NoDay(Refusal::Form);

@@ -4,16 +4,15 @@ use calendar::refusal::Refusal;
 use calendar::span::DayAnswer;
 use calendar::span::day_or_refusal;
 use calendar::style::Style;
-use calendar::style::StyleAnswer;
+use calendar::style::is_gregorian;
 use calendar::year::NamedYear;
+use words::numeral::four_digits;
 use words::numeral::number_of;
 use words::text::behind_last;
-ghost use mathlib.Core.List.{[], _∷_};
-ghost use Rattle.calendar.specs.declared.refusal.Refusal.the-variants.{Form};
-ghost use Rattle.calendar.specs.declared.style.StyleAnswer.the-variants.{Known, NoStyle};
+ghost use mathlib.Core.Path.{_≡_};
 ghost use Rattle.words.specs.Told.{Told};
 ghost use Rattle.dating.specs.Line.{IsDayOfLine, IsNumberOfLine};
-ghost use Rattle.dating.specs.Steps.{letters, endings, endAt, IsReading};
+ghost use Rattle.dating.specs.Steps.{isLetter, styleOfLetter, endings, endAt, IsReading};
 ghost use Rattle.dating.specs.declared.line.Ending.the-variants.{NoEnding};
 
 // The length of a line's phrase, and the year with its style that stand behind it, or none.
@@ -32,17 +31,24 @@ pub(crate) enum Reading {
     Refused(Refusal),
 }
 
-// The style whose letter a byte is.
-fn style_of_letter(letter: u8) -> StyleAnswer
-    ensures { λ r. ⌜ Told letters Known (NoStyle Form) (letter ∷ []) r ⌝ }
+// Whether a byte is the letter of a style.
+fn is_letter(byte: u8) -> bool
+    ensures { λ r. ⌜ r ≡ isLetter byte ⌝ }
 {
-    if letter == b'J' {
-        return StyleAnswer::Known(Style::Julian);
+    match byte {
+        b'G' | b'J' => true,
+        _ => false,
     }
+}
+
+// The style whose letter a byte is; J for any other byte.
+fn style_of_letter(letter: u8) -> Style
+    ensures { λ r. ⌜ r ≡ styleOfLetter letter ⌝ }
+{
     if letter == b'G' {
-        return StyleAnswer::Known(Style::Gregorian);
+        return Style::Gregorian;
     }
-    StyleAnswer::NoStyle(Refusal::Form)
+    Style::Julian
 }
 
 // What stands behind the phrase of a line.
@@ -56,9 +62,25 @@ fn ending_of(line: &[u8]) -> Ending
     if line[length - 2] != b' ' {
         return Ending::NoEnding;
     }
-    let StyleAnswer::Known(style) = style_of_letter(line[length - 1]) else {
+    let letter = line[length - 1];
+    if !is_letter(letter) {
         return Ending::NoEnding;
-    };
+    }
+    let style = style_of_letter(letter);
+    // Most years have four digits.
+    if length > 7 {
+        if line[length - 7] == b' ' {
+            let year = four_digits(
+                line[length - 6],
+                line[length - 5],
+                line[length - 4],
+                line[length - 3],
+            ) as u64;
+            if year > 0 {
+                return Ending::At(length - 7, NamedYear { style, year });
+            }
+        }
+    }
     let end = length - 2;
     let front = &line[..end];
     let start = behind_last(front, b' ');
@@ -72,37 +94,36 @@ fn ending_of(line: &[u8]) -> Ending
     Ending::At(start - 1, NamedYear { style, year })
 }
 
-// The reading of a dating line.
-pub(crate) fn reading_of_line(line: &[u8]) -> Reading
-    ensures { λ r. ⌜ IsReading (now (line .entry)) r ⌝ }
-{
-    if line.len() == 0 {
-        return Reading::Refused(Refusal::Length);
-    }
-    if line.len() > 120 {
-        return Reading::Refused(Refusal::Length);
-    }
-    let Ending::At(phrase, named) = ending_of(line) else {
-        return Reading::Refused(Refusal::Form);
-    };
-    let style = named.style;
-    match phrase_in_year(&line[..phrase], named) {
-        DayAnswer::Day(day) => Reading::Dated { style, day, phrase },
-        DayAnswer::NoDay(refusal) => Reading::Refused(refusal),
-    }
-}
-
 // The day of a dating line: refused by 2, 3, 4, 5 or 6.
 pub fn day_of_line(line: &[u8]) -> DayAnswer
     ensures { λ r. ⌜ IsDayOfLine (now (line .entry)) r ⌝ }
 {
-    match reading_of_line(line) {
-        Reading::Dated {
-            style: _,
-            day,
-            phrase: _,
-        } => DayAnswer::Day(day),
-        Reading::Refused(refusal) => DayAnswer::NoDay(refusal),
+    if line.len() == 0 {
+        return DayAnswer::NoDay(Refusal::Length);
+    }
+    if line.len() > 120 {
+        return DayAnswer::NoDay(Refusal::Length);
+    }
+    let Ending::At(phrase, named) = ending_of(line) else {
+        return DayAnswer::NoDay(Refusal::Form);
+    };
+    let style = named.style;
+    phrase_in_year(&line[..phrase], is_gregorian(style), named.year)
+}
+
+// The reading of a dating line; where that has a day, its ending is told by its last bytes.
+pub(crate) fn reading_of_line(line: &[u8]) -> Reading
+    ensures { λ r. ⌜ IsReading (now (line .entry)) r ⌝ }
+{
+    match day_of_line(line) {
+        DayAnswer::Day(day) => {
+            let length = line.len();
+            let style = style_of_letter(line[length - 1]);
+            let end = length - 2;
+            let phrase = behind_last(&line[..end], b' ') - 1;
+            Reading::Dated { style, day, phrase }
+        }
+        DayAnswer::NoDay(refusal) => Reading::Refused(refusal),
     }
 }
 

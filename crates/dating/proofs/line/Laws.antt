@@ -1,71 +1,75 @@
 -- Endings and lines: each has one reading, and a line tells what its phrase tells in the year that its ending names.
 use mathlib.Core.Bool.{true, false}
 use mathlib.Core.List.{List, [], _∷_, _++_, append-assoc}
+use mathlib.Core.Logic.{inl, inr}
 use mathlib.Core.Path.{_≡_, refl, sym, _∙_, ap}
-use Prim.Native.Nat.{ℕ, _+_, _-_, _<_, _≤_}
+use Prim.Native.Nat.{ℕ, zero, suc, _+_, _-_, _<_, _≤_}
 use native.Mathlib.Omega.{arith}
-use lib.ListN.{length, take, drop, getD, length-append}
-use lib.Seq.{length-take-le, take-append-seam, getD-append-seam, getD-append-add}
-use borrow.Author.Tests.{le-leb, lt-leb}
+use lib.Dec.{eqb}
+use lib.ListN.{length, take, drop, getD, length-append, take-append-drop}
+use lib.Seq.{drop-cons, drop-length, length-take-le, take-append-seam, getD-append-seam, getD-append-add}
+use borrow.Author.Tests.{eqb-true, le-leb, lt-leb}
 use Rattle.calendar.proofs.range.Laws.{in-range}
 use Rattle.calendar.proofs.refusal.Laws.{no-day}
 use Rattle.words.proofs.Told.{one-told, told-map, number-told, number-untold}
 use Rattle.words.proofs.numeral.Laws.{one-number, numeral-lacks, numeral-length}
-use Rattle.words.proofs.text.Laws.{no-false, one-cut, cut, known-cut, last-two}
+use Rattle.words.proofs.text.Laws.{no-false, either, one-cut, cut, known-cut}
 use Rattle.dating.proofs.anchor.Laws.{three-bytes}
 use Rattle.dating.proofs.phrase.Laws.{one-phrase, phrase-in-span}
 use Rattle.calendar.specs.Range.{between}
 use Rattle.calendar.specs.Span.{inSpan}
 use Rattle.calendar.specs.Style.{styleLetter}
+use Rattle.calendar.specs.Year.{named}
 use Rattle.words.specs.Numeral.{numeral, numerals}
 use Rattle.words.specs.Text.{space, has, BehindLast}
 use Rattle.words.specs.Told.{Told, produced, unproduced}
 use Rattle.words.specs.Wrapper.{wrapperWords}
-use Rattle.dating.specs.Line.{Line, ending, GoodYear, spellLine, GoodLine, lines, lineDay, LineTold, unfit, fit, lengthFits, IsDayOfLine}
+use Rattle.dating.specs.Line.{Line, ending, GoodYear, spellLine, GoodLine, lineDay, LineTold, unfit, fit, lengthFits, IsDayOfLine}
 use Rattle.dating.specs.Phrase.{Phrase, plain, wrapped, spellPhrase, GoodPhrase, phraseDay}
-use Rattle.dating.specs.Steps.{phrases, letters, Ended, endings, endAt, ReadFrom, IsReading}
+use Rattle.dating.specs.Steps.{phrases, isLetter, styleOfLetter, Ended, endings, endAt, ReadFrom}
 use Rattle.calendar.specs.declared.refusal.Refusal.the-variants.{Length, Form}
 use Rattle.calendar.specs.declared.refusal.Refusal.{Refusal}
 use Rattle.calendar.specs.declared.span.DayAnswer.the-variants.{Day, NoDay}
 use Rattle.calendar.specs.declared.span.DayAnswer.{DayAnswer}
 use Rattle.calendar.specs.declared.style.Style.the-variants.{Julian, Gregorian}
 use Rattle.calendar.specs.declared.style.Style.{Style}
-use Rattle.calendar.specs.declared.style.StyleAnswer.the-variants.{Known, NoStyle}
 use Rattle.calendar.specs.declared.year.NamedYear.{NamedYear}
 use Rattle.dating.specs.declared.line.Ending.the-variants.{At, NoEnding}
 use Rattle.dating.specs.declared.line.Ending.{Ending}
-use Rattle.dating.specs.declared.line.Reading.the-variants.{Dated, Refused}
-use Rattle.dating.specs.declared.line.Reading.{Reading}
 
 -- ---- style letters
-pub no-letter : (x : ℕ) → (x ≡ styleLetter Julian → ⊥) → (x ≡ styleLetter Gregorian → ⊥)
-    → Told letters Known (NoStyle Form) (x ∷ []) (NoStyle Form)
-no-letter x no-j no-g = unproduced (λ s g e. none s e) refl
-  where
-    none : (s : Style) → styleLetter s ∷ [] ≡ x ∷ [] → ⊥
-    none Julian e = no-j (sym cc)
-    none Gregorian e = no-g (sym cc)
+its-letter : (s : Style) → (isLetter (styleLetter s) ≡ true) × (styleOfLetter (styleLetter s) ≡ s)
+its-letter Julian = (refl, refl)
+its-letter Gregorian = (refl, refl)
 
-pub one-letter : (s t : Style) → styleLetter s ≡ styleLetter t → s ≡ t
-one-letter Julian Julian e = refl
-one-letter Julian Gregorian e = absurd (omega arith)
-one-letter Gregorian Julian e = absurd (omega arith)
-one-letter Gregorian Gregorian e = refl
+letter-of : (x : ℕ) → isLetter x ≡ true → styleLetter (styleOfLetter x) ≡ x
+letter-of x h =
+    elim (either (eqb x (styleLetter Gregorian))) [
+      | inl g ↦ rw g (sym (eqb-true x (styleLetter Gregorian) g))
+      | inr g ↦ rw g (sym (eqb-true x (styleLetter Julian) (rw g at h)))
+    ]
 
 no-space : (s : Style) → has space (styleLetter s ∷ []) ≡ false
 unfolding has
 no-space Julian = refl
 no-space Gregorian = refl
 
-pub letter-told : (x : ℕ) (s : Style) → Told letters Known (NoStyle Form) (x ∷ []) (Known s) → styleLetter s ≡ x
-letter-told x s (produced t g e m) = let same : s ≡ t = cc in let byte : styleLetter t ≡ x = cc in ap styleLetter same ∙ byte
-letter-told x s (unproduced none m) = no-false cc
-
-pub letter-untold : (x : ℕ) (f : Refusal) (s : Style) → Told letters Known (NoStyle Form) (x ∷ []) (NoStyle f) → styleLetter s ≡ x → ⊥
-letter-untold x f s (produced t g e m) h = no-false cc
-letter-untold x f s (unproduced none m) h = none s tt (ap (λ (c : ℕ). c ∷ []) h)
-
 -- ---- endings
+-- the last n bytes of s
+lastOf : ℕ → List ℕ → List ℕ
+lastOf zero s = []
+lastOf (suc n) s = getD s (length s - suc n) 0 ∷ lastOf n s
+
+last-bytes : (n : ℕ) (s : List ℕ) → n ≤ length s → take (length s - n) s ++ lastOf n s ≡ s
+unfolding lastOf
+last-bytes n s h = rw (← go n h) (take-append-drop (length s - n) s)
+  where
+    go : (k : ℕ) → k ≤ length s → drop (length s - k) s ≡ lastOf k s
+    go zero h = let all : length s - 0 ≡ length s = omega arith in rw all (drop-length s)
+    go (suc k) h =
+        let next : suc (length s - suc k) ≡ length s - k = omega arith in
+        drop-cons s (length s - suc k) 0 (omega arith) ∙ rw (next, go k (omega arith))
+
 -- the bytes before the last space and letter
 abbrev before : List ℕ → NamedYear → List ℕ
 before a t = a ++ space ∷ numeral (t .year)
@@ -83,7 +87,8 @@ one-ending a b t u g h e =
     (split a t ∙ e ∙ sym (split b u)) in
     let inner = one-cut space a b (numeral (t .year)) (numeral (u .year)) (year-lacks-space t g) (year-lacks-space u h) (outer .0) in
     let letters-same = outer .1 in
-    let style = one-letter (t .style) (u .style) cc in
+    let byte : styleLetter (t .style) ≡ styleLetter (u .style) = cc in
+    let style = sym (its-letter (t .style) .1) ∙ ap styleOfLetter byte ∙ its-letter (u .style) .1 in
     let year = one-number (t .year) (u .year) (g .0) (g .1) (h .0) (h .1) (inner .1) in
     (inner .0, λ i. record { style = style i; year = year i })
 
@@ -94,13 +99,17 @@ module _ (s : List ℕ) where
   abbrev pub TellsEnding : Ending → Type 0
   TellsEnding r = Told endings endAt NoEnding s r
 
+  -- the byte that is the k-th from the end
+  abbrev fromEnd : ℕ → ℕ
+  fromEnd k = getD s (length s - k) 0
+
   unended : Unended → TellsEnding NoEnding
   unended none = unproduced none refl
 
   -- the last two bytes of a line, and those before them
   ended : (x : Ended) → x .front ++ ending (x .named) ≡ s
       → (2 ≤ length s) × ((before (x .front) (x .named) ≡ take (length s - 2) s)
-      × ((getD s (length s - 2) 0 ≡ space) × (getD s (length s - 1) 0 ≡ styleLetter (x .named .style))))
+      × ((fromEnd 2 ≡ space) × (fromEnd 1 ≡ styleLetter (x .named .style))))
   ended x e =
       let a = before (x .front) (x .named) in
       let l = styleLetter (x .named .style) in
@@ -118,11 +127,11 @@ module _ (s : List ℕ) where
   pub too-short : length s < 2 → TellsEnding NoEnding
   too-short h = unended (λ x g e. let b = ended x e in omega arith)
 
-  pub no-last-space : (getD s (length s - 2) 0 ≡ space → ⊥) → TellsEnding NoEnding
+  pub no-last-space : (fromEnd 2 ≡ space → ⊥) → TellsEnding NoEnding
   no-last-space n = unended (λ x g e. n (ended x e .1 .1 .0))
 
-  pub no-style : (f : Refusal) → Told letters Known (NoStyle Form) (getD s (length s - 1) 0 ∷ []) (NoStyle f) → TellsEnding NoEnding
-  no-style f told = unended (λ x g e. letter-untold _ f (x .named .style) told (sym (ended x e .1 .1 .1)))
+  pub no-style : isLetter (fromEnd 1) ≡ false → TellsEnding NoEnding
+  no-style h = unended (λ x g e. no-false (sym (rw (ended x e .1 .1 .1) (its-letter (x .named .style) .0)) ∙ h))
 
   module _ (i : ℕ) (b : BehindLast space (take (length s - 2) s) i) where
     year-cut : (x : Ended) → GoodYear (x .named) → x .front ++ ending (x .named) ≡ s
@@ -137,20 +146,32 @@ module _ (s : List ℕ) where
       pub no-year : y ≡ 0 → TellsEnding NoEnding
       no-year z = unended (λ x g e. number-untold y told z (x .named .year) (g .0) (g .1) (year-cut x g e .2))
 
-      pub ending-told : (t : Style) → 2 ≤ length s → getD s (length s - 2) 0 ≡ space
-          → Told letters Known (NoStyle Form) (getD s (length s - 1) 0 ∷ []) (Known t) → 0 < i → 0 < y
-          → TellsEnding (At (i - 1) (record { style = t; year = y }))
-      ending-told t long byte style low some =
+      pub ending-told : 2 ≤ length s → fromEnd 2 ≡ space → isLetter (fromEnd 1) ≡ true → 0 < i → 0 < y
+          → TellsEnding (At (i - 1) (named (styleOfLetter (fromEnd 1)) y))
+      unfolding lastOf
+      ending-told long byte letter low some =
           let front = take (length s - 2) s in
           let n = number-told y told some in
           let inside = b .inside in
           let size = length-take-le (length s - 2) s (omega arith) in
           let bytes : take (i - 1) front ++ space ∷ numeral y ≡ front = rw (n .1) (cut space front i b low) in
-          let year : NamedYear = record { style = t; year = y } in
+          let year = named (styleOfLetter (fromEnd 1)) y in
           let spelled : take (i - 1) front ++ ending year ≡ s =
-          sym (split (take (i - 1) front) year) ∙ rw (bytes, letter-told _ t style, ← byte) (last-two s long) in
+          sym (split (take (i - 1) front) year) ∙ rw (bytes, letter-of _ letter, ← byte) (last-bytes 2 s long) in
           produced (record { front = take (i - 1) front; named = year }) (n .0) spelled
           (rw (length-take-le (i - 1) front (omega arith)))
+
+  -- a year of four digits, which stands at a known place
+  pub four-told : (y : ℕ) → Told (numerals 9999) (λ n. n) 0 (fromEnd 6 ∷ fromEnd 5 ∷ fromEnd 4 ∷ fromEnd 3 ∷ []) y → 0 < y
+      → 7 ≤ length s → fromEnd 7 ≡ space → fromEnd 2 ≡ space → isLetter (fromEnd 1) ≡ true
+      → TellsEnding (At (length s - 7) (named (styleOfLetter (fromEnd 1)) y))
+  unfolding lastOf
+  four-told y told some long first last letter =
+      let n = number-told y told some in
+      let spelled : take (length s - 7) s ++ ending (named (styleOfLetter (fromEnd 1)) y) ≡ s =
+      rw (n .1, letter-of _ letter) (rw (first, last) at (last-bytes 7 s long)) in
+      produced (record { front = take (length s - 7) s; named = named (styleOfLetter (fromEnd 1)) y }) (n .0) spelled
+      (rw (length-take-le (length s - 7) s (omega arith)))
 
 -- ---- lines
 -- no line is shorter than `1.1 1 J`
@@ -232,27 +253,11 @@ module _ (s : List ℕ) (k : ℕ) (t : NamedYear) (ends : TellsEnding s (At k t)
   pub size : length (take k s) ≡ k
   size = length-take-le k s (ending-of .0)
 
-  -- the reading of a line by the day of its phrase
-  abbrev pub readAs : DayAnswer → Reading
-  readAs (Day n) = Dated (t .style) n k
-  readAs (NoDay x) = Refused x
-
-  pub line-read : lengthFits s ≡ true → (r : DayAnswer) → Told phrases (phraseDay t) (NoDay Form) (take k s) r → IsReading s (readAs r)
+  pub line-told : lengthFits s ≡ true → (r : DayAnswer) → Told phrases (phraseDay t) (NoDay Form) (take k s) r → IsDayOfLine s r
   unfolding spellLine lineDay
-  line-read fits (Day n) (unproduced none m) = no-day Form n (sym m)
-  line-read fits (Day n) (produced p g e m) =
-      record {
-        fits = fits;
-        line = record { phrase = p; named = t };
-        good = record { phrase = g; year = ending-of .1 .0 };
-        spelled = rw e (ending-of .1 .1);
-        day = sym m;
-        style = refl;
-        phrase = ap length e ∙ size;
-      }
-  line-read fits (NoDay x) (produced p g e m) =
+  line-told fits r (produced p g e m) =
       fit fits (produced (record { phrase = p; named = t }) (record { phrase = g; year = ending-of .1 .0 }) (rw e (ending-of .1 .1)) m)
-  line-read fits (NoDay x) (unproduced none m) =
+  line-told fits r (unproduced none m) =
       fit fits (unproduced (λ l g e.
       let same = one-ending (spellPhrase (l .phrase)) (take k s) (l .named) t (g .year) (ending-of .1 .0) (e ∙ sym (ending-of .1 .1)) in
       none (l .phrase) (g .phrase) (same .0)) m)
@@ -264,3 +269,22 @@ day-read s y n k r = fit (r .fits) (produced (r .line) (r .good) (r .spelled) (s
 pub read-in-span : (s : List ℕ) (y : Style) (n k : ℕ) → ReadFrom s y n k → inSpan y n ≡ true
 unfolding lineDay
 read-in-span s y n k r = rw (r .style) at (phrase-in-span (r .line .named) (r .line .phrase) n (r .day))
+
+-- ---- the reading of a line that has a day
+module _ (s : List ℕ) (n : ℕ) where
+  pub two-bytes : IsDayOfLine s (Day n) → 2 ≤ length s
+  two-bytes (unfit h m) = no-day Length n (sym m)
+  two-bytes (fit h (unproduced none m)) = no-day Form n (sym m)
+  two-bytes (fit h (produced l g e m)) = omega (arith, rw e at (line-length l g))
+
+  pub reading : IsDayOfLine s (Day n) → (i : ℕ) → BehindLast space (take (length s - 2) s) i
+      → (0 < i) × ReadFrom s (styleOfLetter (getD s (length s - 1) 0)) n (i - 1)
+  unfolding spellLine
+  reading (unfit h m) i b = no-day Length n (sym m)
+  reading (fit h (unproduced none m)) i b = no-day Form n (sym m)
+  reading (fit h (produced l g e m)) i b =
+      let x : Ended = record { front = spellPhrase (l .phrase); named = l .named } in
+      let cut-there = year-cut s i b x (g .year) e in
+      let style = its-letter (l .named .style) .1 in
+      let size = ap length (cut-there .1) ∙ length-take-le (i - 1) (take (length s - 2) s) (omega (arith, b .inside)) in
+      (cut-there .0, record { fits = h; line = l; good = g; spelled = e; day = sym m; style = rw (ended s x e .1 .1 .1) (sym style); phrase = size })

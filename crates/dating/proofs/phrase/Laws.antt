@@ -93,7 +93,7 @@ module _ (s : List ℕ) (w : Wrapper) (n : ℕ) (begins : Told leadings lead Pla
   abbrev Leads : Type 0
   Leads = (n ≡ length (wrapperWords w)) × GoodWrapper w × (wrapperWords w ++ drop n s ≡ s)
 
-  leads : Leads
+  pub leads : Leads
   leads = go begins
     where
       go : Told leadings lead Plain s (Wrapped w n) → Leads

@@ -1,14 +1,48 @@
+use mathlib.Core.Path.{sym}
+use native.Mathlib.Omega.{arith}
 use borrow.Author.Needs.{needs}
-use Rattle.dating.proofs.line.Laws.{day-read}
+use Rattle.dating.proofs.line.Laws.{TellsEnding, no-bytes, too-many, length-fits, no-ending, ending-of, size, line-told}
+use Rattle.dating.specs.declared.line.Ending.the-variants.{At}
 use Rattle.dating.proofs.line.day_of_line.Statement.{statement}
 use Rattle.dating.proofs.line.day_of_line.Tie as tie
 
 returns : tie.Need-returns
-returns c = day-read _ _ _ _ (rw (c .before .day .given .1) at (c .before .before .before .reading-of-line .ensures))
+returns c = no-bytes _ (c .if1 .taken)
 
 returns-2 : tie.Need-returns-2
-returns-2 c = rw (c .before .refusal .given .1) at (c .before .before .before .reading-of-line .ensures)
+returns-2 c = too-many _ (omega (arith, c .if2 .taken))
+
+returns-3 : tie.Need-returns-3
+returns-3 c =
+    let few = c .before .before .before in
+    no-ending _ (few .before .if1 .left) (omega (arith, few .if2 .left)) _ (c .before .before .ending-of .ensures) (c .enum-told .given .1)
+
+ends : (c : tie.After-known-told)
+    → let found = c .before .phrase .given .0 in
+    TellsEnding (c .before .before .before .before .before .before .before .args .line .now) (At (found .0) (found .1 .0))
+ends c = rw (c .before .phrase .given .1) at (c .before .before .before .ending-of .ensures)
+
+slice-aggregate-phrase-in-year : tie.Need-slice-aggregate-phrase-in-year
+slice-aggregate-phrase-in-year c = sym (size _ _ _ (ends (c .before)))
+
+phrase-in-year-requires : tie.Need-phrase-in-year-requires
+phrase-in-year-requires c κs = rw (size _ _ _ (ends (c .before .before))) (omega (arith, ending-of _ _ _ (ends (c .before .before)) .0))
+
+returns-4 : tie.Need-returns-4
+returns-4 c =
+    let few = c .before .before .before .before .before .before .before in
+    let fits = length-fits (few .before .before .before .args .line .now) (few .before .if1 .left) (omega (arith, few .if2 .left)) in
+    line-told _ _ _ (ends (c .before .before .before)) fits _ (rw (c .before .is-gregorian .ensures) at (c .phrase-in-year .ensures))
 
 pub day-of-line-spec : {M : Type 1} → statement M
 day-of-line-spec =
-    tie.close (tie.spec (λ c κs. search needs) (λ c. search needs) (λ c. search needs) returns returns-2)
+    tie.close
+    (tie.spec
+    returns
+    returns-2
+    (λ c κs. search needs) (λ c. search needs) (λ c. search needs)
+    returns-3
+    slice-aggregate-phrase-in-year
+    (λ c κs. search needs)
+    phrase-in-year-requires
+    returns-4)

@@ -1,9 +1,14 @@
-use mathlib.Core.Path.{sym}
+use mathlib.Core.Bool.{true}
+use mathlib.Core.Path.{_≡_, sym, _∙_}
+use Prim.Native.Nat.{_-_}
 use native.Mathlib.Omega.{arith}
+use lib.ListN.{length, getD}
 use lib.Seq.{length-take-le}
 use borrow.Author.Needs.{needs}
+use borrow.Author.Tests.{not-true, not-false}
 use Rattle.words.proofs.text.Laws.{rest}
-use Rattle.dating.proofs.line.Laws.{too-short, no-last-space, no-style, no-year-space, no-year, ending-told}
+use Rattle.dating.proofs.line.Laws.{too-short, no-last-space, no-style, no-year-space, no-year, ending-told, four-told}
+use Rattle.dating.specs.Steps.{isLetter}
 use Rattle.dating.proofs.line.ending_of.Statement.{statement}
 use Rattle.dating.proofs.line.ending_of.Tie as tie
 
@@ -14,25 +19,37 @@ returns-2 : tie.Need-returns-2
 returns-2 c = no-last-space _ (c .if2 .taken)
 
 returns-3 : tie.Need-returns-3
-returns-3 c = no-style _ _ (rw (c .enum-told .given .1) at (c .before .before .style-of-letter .ensures))
+returns-3 c = no-style _ (sym (c .before .is-letter .ensures) ∙ not-true _ (c .if3 .taken))
+
+letter : (c : tie.Else3)
+    → let s = c .before .before .before .before .before .before .before .args .line .now in
+    isLetter (getD s (length s - 1) 0) ≡ true
+letter c = sym (c .before .is-letter .ensures) ∙ not-false _ (c .if3 .left)
+
+returns-4 : tie.Need-returns-4
+returns-4 c =
+    let gap = c .before .before .before .before .before .before in
+    let style = gap .before .before .before in
+    rw (style .style-of-letter .ensures) (four-told _ _ (c .before .four-digits .ensures) (omega arith) (omega arith) (gap .if5 .taken)
+    (style .before .before .before .before .if2 .left) (letter (style .before)))
 
 slice-aggregate-front : tie.Need-slice-aggregate-front
 slice-aggregate-front c = sym (length-take-le _ _ (omega arith))
 
-returns-4 : tie.Need-returns-4
-returns-4 c = no-year-space _ _ (c .before .behind-last .ensures) (c .if3 .taken)
-
 returns-5 : tie.Need-returns-5
-returns-5 c =
-    no-year _ _ (c .before .before .before .before .behind-last .ensures) _ (rw (rest _ _) at (c .before .number-of .ensures)) (c .if4 .taken)
+returns-5 c = no-year-space _ _ (c .before .behind-last .ensures) (c .if7 .taken)
 
 returns-6 : tie.Need-returns-6
 returns-6 c =
+    no-year _ _ (c .before .before .before .before .behind-last .ensures) _ (rw (rest _ _) at (c .before .number-of .ensures)) (c .if8 .taken)
+
+returns-7 : tie.Need-returns-7
+returns-7 c =
     let year = c .before .before .before .before in
     let style = year .before .before .before in
-    let letter = style .before .before in
-    ending-told _ _ (year .behind-last .ensures) _ (rw (rest _ _) at (c .before .number-of .ensures)) _ (letter .before .before .before .before .if1 .left)
-    (letter .before .before .if2 .left) (rw (style .style .given .1) at (letter .style-of-letter .ensures)) (omega arith) (omega arith)
+    let gap = style .before .before .before .before in
+    rw (style .style-of-letter .ensures) (ending-told _ _ (year .behind-last .ensures) _ (rw (rest _ _) at (c .before .number-of .ensures))
+    (gap .before .before .if1 .left) (gap .if2 .left) (letter (style .before)) (omega arith) (omega arith))
 
 pub ending-of-spec : {M : Type 1} → statement M
 ending-of-spec =
@@ -41,12 +58,15 @@ ending-of-spec =
     returns
     (λ c. search needs)
     returns-2
-    (λ c. search needs) (λ c. search needs) (λ c κs. search needs) (λ c. search needs) (λ c. search needs)
+    (λ c. search needs) (λ c. search needs) (λ c κs. search needs)
     returns-3
+    (λ c κs. search needs) (λ c. search needs) (λ c. search needs) (λ c. search needs) (λ c. search needs) (λ c. search needs) (λ c. search needs)
+    (λ c. search needs) (λ c. search needs) (λ c. search needs) (λ c. search needs) (λ c κs. search needs) (λ c. search needs) (λ c. search needs)
+    returns-4
     slice-aggregate-front
     (λ c κs. search needs)
-    returns-4
-    (λ c. search needs) (λ c. search needs) (λ c. search needs) (λ c κs. search needs)
     returns-5
+    (λ c. search needs) (λ c. search needs) (λ c. search needs) (λ c κs. search needs)
+    returns-6
     (λ c. search needs)
-    returns-6)
+    returns-7)

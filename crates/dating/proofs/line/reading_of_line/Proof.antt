@@ -1,59 +1,51 @@
 use mathlib.Core.Path.{sym}
 use native.Mathlib.Omega.{arith}
+use lib.Seq.{length-take-le}
 use borrow.Author.Needs.{needs}
-use Rattle.dating.proofs.line.Laws.{TellsEnding, no-bytes, too-many, length-fits, no-ending, ending-of, size, readAs, line-read}
-use Rattle.dating.specs.Steps.{IsReading}
-use Rattle.dating.specs.declared.line.Ending.the-variants.{At}
+use Rattle.dating.proofs.line.Laws.{two-bytes, reading}
+use Rattle.dating.specs.Line.{IsDayOfLine}
+use Rattle.calendar.specs.declared.span.DayAnswer.the-variants.{Day}
 use Rattle.dating.proofs.line.reading_of_line.Statement.{statement}
 use Rattle.dating.proofs.line.reading_of_line.Tie as tie
 
+told : (c : tie.After-known-told) → IsDayOfLine (c .before .before .before .before .before .args .line .now) (Day (c .before .day .given .0 .0))
+told c = rw (c .before .day .given .1) at (c .before .before .before .day-of-line .ensures)
+
+sub-style-of-letter : tie.Need-sub-style-of-letter
+sub-style-of-letter c = omega (arith, two-bytes _ _ (told c))
+
+shared-slice-read-style-of-letter : tie.Need-shared-slice-read-style-of-letter
+shared-slice-read-style-of-letter c = omega (arith, two-bytes _ _ (told (c .before)))
+
+sub-end : tie.Need-sub-end
+sub-end c = two-bytes _ _ (told (c .before .before))
+
+slice-aggregate-behind-last : tie.Need-slice-aggregate-behind-last
+slice-aggregate-behind-last c = sym (length-take-le _ _ (omega arith))
+
+sub-phrase : tie.Need-sub-phrase
+sub-phrase c = reading _ _ (told (c .before .before .before .before)) _ (c .behind-last .ensures) .0
+
 returns : tie.Need-returns
-returns c = no-bytes _ (c .if1 .taken)
+returns c =
+    let style = c .before .before in
+    rw (style .style-of-letter .ensures) (reading _ _ (told (style .before .before)) _ (c .behind-last .ensures) .1)
 
 returns-2 : tie.Need-returns-2
-returns-2 c = too-many _ (omega (arith, c .if2 .taken))
-
-returns-3 : tie.Need-returns-3
-returns-3 c =
-    let few = c .before .before .before in
-    no-ending _ (few .before .if1 .left) (omega (arith, few .if2 .left)) _ (c .before .before .ending-of .ensures) (c .enum-told .given .1)
-
-ends : (c : tie.After-known-told)
-    → let found = c .before .phrase .given .0 in
-    TellsEnding (c .before .before .before .before .before .before .before .args .line .now) (At (found .0) (found .1 .0))
-ends c = rw (c .before .phrase .given .1) at (c .before .before .before .ending-of .ensures)
-
-slice-aggregate-phrase-in-year : tie.Need-slice-aggregate-phrase-in-year
-slice-aggregate-phrase-in-year c = sym (size _ _ _ (ends (c .before)))
-
-phrase-in-year-requires : tie.Need-phrase-in-year-requires
-phrase-in-year-requires c κs = rw (size _ _ _ (ends (c .before))) (omega (arith, ending-of _ _ _ (ends (c .before)) .0))
-
--- the reading that the phrase's day tells
-reads : (c : tie.After-phrase-in-year)
-    → let s = c .before .before .before .before .before .before .before .before .before .args .line .now in
-    IsReading s (readAs s _ _ (ends (c .before .before)) (c .phrase-in-year .result))
-reads c =
-    let few = c .before .before .before .before .before .before in
-    let fits = length-fits (few .before .before .before .args .line .now) (few .before .if1 .left) (omega (arith, few .if2 .left)) in
-    line-read _ _ _ (ends (c .before .before)) fits _ (c .phrase-in-year .ensures)
-
-returns-4 : tie.Need-returns-4
-returns-4 c = rw (c .before .day .given .1) at (reads (c .before .before .before))
-
-returns-5 : tie.Need-returns-5
-returns-5 c = rw (c .before .refusal .given .1) at (reads (c .before .before .before))
+returns-2 c = rw (c .before .refusal .given .1) at (c .before .before .before .day-of-line .ensures)
 
 pub reading-of-line-spec : {M : Type 1} → statement M
 reading-of-line-spec =
     tie.close
     (tie.spec
+    (λ c κs. search needs) (λ c. search needs)
+    sub-style-of-letter
+    shared-slice-read-style-of-letter
+    (λ c κs. search needs)
+    sub-end
+    slice-aggregate-behind-last
+    (λ c κs. search needs)
+    sub-phrase
+    (λ c. search needs)
     returns
-    returns-2
-    (λ c κs. search needs) (λ c. search needs) (λ c. search needs)
-    returns-3
-    slice-aggregate-phrase-in-year
-    phrase-in-year-requires
-    (λ c. search needs) (λ c. search needs)
-    returns-4
-    returns-5)
+    returns-2)

@@ -3,17 +3,21 @@ use Prim.Native.Nat.{ℕ, _-_, _<_}
 use native.Mathlib.Omega.{arith}
 use lib.ListN.{length, drop, length-drop}
 use borrow.Author.Needs.{needs}
+use borrow.Author.Tests.{ne-eqb}
 use borrow.Fn.Kinds.{In}
 use borrow.Fn.PlainCycle.{Measures, is, falls, and}
 use Rattle.words.proofs.text.Laws.{rest}
-use Rattle.dating.proofs.phrase.Laws.{shorter, plain-told, wrapped-told, told-in-span}
+use Rattle.dating.proofs.phrase.Laws.{leads, shorter, plain-told, wrapped-told, told-in-span}
+use Rattle.calendar.specs.Style.{styleBy}
+use Rattle.calendar.specs.Year.{named}
 use Rattle.words.specs.Told.{Told}
-use Rattle.words.specs.Wrapper.{leadings, lead}
+use Rattle.words.specs.Wrapper.{wrapperOf, leadings, lead}
 use Rattle.dating.specs.Phrase.{phraseDay}
 use Rattle.dating.specs.Steps.{phrases}
 use Rattle.calendar.specs.declared.refusal.Refusal.the-variants.{Form}
 use Rattle.calendar.specs.declared.span.DayAnswer.the-variants.{NoDay}
 use Rattle.words.specs.declared.wrapper.Lead.the-variants.{Wrapped, Plain}
+use Rattle.calendar.proofs.style.style_by.Reads as style-by-reads
 use Rattle.dating.proofs.anchor.anchor_in_year.Reads as anchor-in-year-reads
 use Rattle.dating.proofs.phrase.+phrase_in_year.Lts-phrase_in_year as lts
 use Rattle.dating.proofs.phrase.phrase_in_year.Kinds as kinds
@@ -38,6 +42,8 @@ abbrev callees : ℕ → lts.Claims
 callees t = (
   lead-of-reads.Asked,
   lead-of-reads.Learnt,
+  style-by-reads.Asked,
+  style-by-reads.Learnt,
   anchor-in-year-reads.Asked,
   anchor-in-year-reads.Learnt,
   below t,
@@ -49,9 +55,12 @@ callees t = (
 module _ (t : ℕ) where
   -- what a phrase with no wrapper tells
   plain : (c : lts.After-anchor-in-year (callees t) (at t) reads.Post)
-      → let a = c .before .before .before .before .before .args in
-      Told phrases (phraseDay (a .named)) (NoDay Form) (a .phrase .now) (c .anchor-in-year .result)
-  plain c = plain-told _ _ _ (c .before .before .before .lead-of .ensures) (c .before .enum-told .given .1) _ (c .anchor-in-year .ensures)
+      → let a = c .before .before .before .before .before .before .args in
+      Told phrases (phraseDay (named (styleBy (a .gregorian)) (a .year))) (NoDay Form) (a .phrase .now) (c .anchor-in-year .result)
+  plain c =
+      let style = c .before .before .before in
+      plain-told _ _ _ (style .before .lead-of .ensures .0) (rw (c .before .if1 .taken)) _
+      (rw (style .style-by .ensures) at (c .anchor-in-year .ensures))
 
   returns : lts.Need-returns (callees t) (at t) reads.Post
   returns c = plain (c .before .before)
@@ -60,49 +69,61 @@ module _ (t : ℕ) where
   returns-2 c = rw (c .before .answer .given .1) at (plain (c .before .before .before))
 
   -- the wrapper that the phrase begins with
-  begins : (c : lts.After-wrapper (callees t) (at t) reads.Post) → let x = c .wrapper .given .0 in
-      Told leadings lead Plain (c .before .before .before .before .args .phrase .now) (Wrapped (x .0) (x .1 .0))
-  begins c = rw (c .wrapper .given .1) at (c .before .before .lead-of .ensures)
+  begins : (c : lts.Else1 (callees t) (at t) reads.Post)
+      → let found = c .before .before .before .lead-of .result in
+      Told leadings lead Plain (c .before .before .before .before .before .args .phrase .now) (Wrapped (wrapperOf (found .number)) (found .length))
+  begins c = rw (ne-eqb _ 0 (c .if1 .left)) at (c .before .before .before .lead-of .ensures .0)
 
   -- what the rest behind it tells
   tells : (c : lts.After-phrase-in-year (callees t) (at t) reads.Post)
-      → let wrapper = c .before .before .before in let a = wrapper .before .before .before .before .args in
-      Told phrases (phraseDay (a .named)) (NoDay Form) (drop (wrapper .wrapper .given .0 .1 .0) (a .phrase .now)) (c .phrase-in-year .result)
+      → let found = c .before .before .before .before .before in let a = found .before .before .args in
+      Told phrases (phraseDay (named (styleBy (a .gregorian)) (a .year))) (NoDay Form) (drop (found .lead-of .result .length) (a .phrase .now))
+      (c .phrase-in-year .result)
   tells c = rw (rest _ _) at (c .phrase-in-year .ensures)
 
   returns-4 : lts.Need-returns-4 (callees t) (at t) reads.Post
   returns-4 c =
       let k = c .before .before .before .before in
+      let wrapper = k .before .before in
       let day = c .before .before .behind .given .1 in
-      rw (c .act .ensures) (wrapped-told _ _ _ (begins (k .before .before .before)) _ _ (rw day at (tells k)))
+      rw (c .act .ensures, wrapper .before .before .style-by .ensures) (wrapped-told _ _ _ (begins wrapper) _ _ (rw day at (tells k)))
 
   returns-3 : lts.Need-returns-3 (callees t) (at t) reads.Post
   returns-3 c =
       let k = c .before .before in
-      let refusal = c .enum-told3 .given .1 in
-      rw (← refusal) at (wrapped-told _ _ _ (begins (k .before .before .before)) _ _ (rw refusal at (tells k)))
+      let refusal = c .enum-told2 .given .1 in
+      rw (← refusal) at (wrapped-told _ _ _ (begins (k .before .before)) _ _ (rw refusal at (tells k)))
 
   fits : lts.Need-sub-phrase-in-year (callees t) (at t) reads.Post
-  fits c = shorter _ _ _ (begins (c .before)) .1
+  fits c = shorter _ _ _ (begins c) .1
 
   phrase-in-year-requires : lts.Need-phrase-in-year-requires (callees t) (at t) reads.Post
   phrase-in-year-requires c κs =
-      let s = c .before .before .before .before .before .before .args .phrase .now in
-      let n = c .before .before .wrapper .given .0 .1 .0 in
-      let now : length s ≡ t = c .before .before .before .before .before .before .pre .0 in
+      let found = c .before .before .before .before in
+      let s = found .before .before .args .phrase .now in
+      let n = found .lead-of .result .length in
+      let now : length s ≡ t = found .before .before .pre .0 in
       let behind : length (drop n s) ≡ length s - n = length-drop n s in
-      let fits = c .before .before .before .before .before .before .pre .1 in
-      let less = shorter _ _ _ (begins (c .before .before)) in
+      let fits = found .before .before .pre .1 in
+      let less = shorter _ _ _ (begins (c .before)) in
       (rw (rest n s) (omega arith), rw (rest n s) (omega arith))
 
   act-requires : lts.Need-act-requires (callees t) (at t) reads.Post
-  act-requires c κs = told-in-span _ _ _ (rw (c .before .behind .given .1) at (tells (c .before .before .before)))
+  act-requires c κs =
+      let k = c .before .before .before in
+      let wrapper = k .before .before in
+      let style = wrapper .before .before in
+      let good = leads _ _ _ (begins wrapper) .1 in
+      let some = wrapper .if1 .left in (
+        (omega arith, style .before .lead-of .ensures .1),
+        (good, rw (style .style-by .ensures) (told-in-span _ _ _ (rw (c .before .behind .given .1) at (tells k)))),
+      )
 
 pub +phrase-in-year-spec : {M : Type 1} → statement M
 +phrase-in-year-spec =
     close μ-phrase-in-year
     λ t. lts.spec (callees t) (at t) reads.Post
-    (λ c κs. search needs) (λ c. search needs) (λ c. search needs) (λ c κs. search needs) (λ c. search needs) (λ c. search needs)
+    (λ c κs. search needs) (λ c κs. search needs) (λ c κs. search needs) (λ c. search needs) (λ c. search needs)
     (returns t)
     (returns-2 t)
     (fits t)
