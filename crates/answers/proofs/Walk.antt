@@ -5,15 +5,16 @@ use Prim.Native.Nat.{ℕ, suc, _+_, _-_, _<_, _≤_}
 use native.Mathlib.Numerals.{add-one}
 use native.Mathlib.Omega.{arith}
 use lib.ListN.{length, take, drop, getD, length-append, length-drop}
-use lib.Seq.{take-all, take-suc, getD-drop, sets, length-sets}
+use lib.Seq.{take-all, take-add, take-suc, drop-drop, getD-drop, sets, length-sets}
 use borrow.Author.Tests.{eq-eqb, ne-eqb}
 use Rattle.words.proofs.text.Laws.{rest}
 use Rattle.places.proofs.Bytes.{sets-both}
 use Rattle.places.proofs.Turn.{turn-append, turn-one}
-use Rattle.answers.proofs.Lines.{ended-append, open-append}
+use Rattle.answers.proofs.Lines.{ended-append, open-append, open-whole}
 use Rattle.dating.specs.Answer.{lineFeed}
 use Rattle.places.specs.Turn.{InTurn}
 use Rattle.answers.specs.Lines.{endedLines, openLine}
+use Rattle.answers.specs.Steps.{between, Quiet}
 
 -- ---- one more byte
 pub line-feed : (s : List ℕ) (c : ℕ) → c ≡ lineFeed
@@ -50,32 +51,31 @@ module _ {tells : List ℕ → List ℕ → Type 0} {s before : List ℕ} {put s
   pub sofar-length : length after ≡ length before
   sofar-length = ap length (p .output) ∙ length-sets before 0 (p .text)
 
+  -- bytes without a line feed are passed over
+  pub passed : (j : ℕ) → Quiet s i j → Sofar tells s before put start j after
+  passed j q =
+      let from = q .from in
+      let begun = p .begun in
+      let first = take i s in
+      let more = between s i j in
+      let at : i + (j - i) ≡ j = omega arith in
+      let size : j - start ≡ i - start + (j - i) = omega arith in
+      let place : start + (i - start) ≡ i = omega arith in
+      let both : take j s ≡ first ++ more = rw at at (take-add i (j - i) s) in
+      let whole = open-whole (openLine [] first) more (q .lacks) in
+      record {
+        text = p .text;
+        told = rw (both, ended-append [] first more, whole .0, append-nil (endedLines [] first)) (p .told);
+        count = p .count;
+        output = p .output;
+        begun = omega arith;
+        inside = q .inside;
+        left = rw (size, take-add (i - start) (j - i) (drop start s), drop-drop (i - start) start s, place, p .left, both, open-append [] first more, whole .1);
+      }
+
   module _ (more : i < length s) where
     abbrev byte : ℕ
     byte = getD s i 0
-
-    -- the open line with one more byte
-    longer : take (i + 1 - start) (drop start s) ≡ openLine [] (take i s) ++ byte ∷ []
-    longer =
-        let begun = p .begun in
-        let k : i + 1 - start ≡ suc (i - start) = omega arith in
-        let at : start + (i - start) ≡ i = omega arith in
-        let size = length-drop start s in
-        rw (k, take-suc (drop start s) (i - start) 0 (omega arith), getD-drop start s (i - start) 0, at, p .left)
-
-    pub another-byte : (byte ≡ lineFeed → ⊥) → Sofar tells s before put start (i + 1) after
-    another-byte other =
-        let next = no-line-feed (take i s) byte other in
-        let begun = p .begun in
-        record {
-          text = p .text;
-          told = rw (one-more s i more, next .0) (p .told);
-          count = p .count;
-          output = p .output;
-          begun = omega arith;
-          inside = omega arith;
-          left = longer ∙ rw (one-more s i more, next .1);
-        }
 
     pub line-end : (t now : List ℕ) → byte ≡ lineFeed → tells (take (i - start) (drop start s)) t → now ≡ sets after put t
         → Sofar tells s before (put + length t) (i + 1) (i + 1) now

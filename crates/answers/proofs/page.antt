@@ -1,1 +1,2 @@
+mod Produced
 pub mod Laws

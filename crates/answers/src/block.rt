@@ -1,4 +1,5 @@
 // Blocks of an input, and the answers to the lines in them.
+use crate::feed::end_from;
 use dating::answer::put_answer;
 ghost use mathlib.Core.Path.{_≡_};
 ghost use Prim.Native.Nat.{_+_, _*_, _≤_, min};
@@ -40,13 +41,11 @@ fn answer_ended(input: &[u8], output: &mut [u8]) -> Ended
 {
     let mut written = 0;
     let mut start = 0;
-    let mut i = 0;
-    while i < input.len() {
-        if input[i] == b'\n' {
-            written += put_answer(&input[start..i], output, written);
-            start = i + 1;
-        }
-        i += 1;
+    let mut end = end_from(input, 0);
+    while end < input.len() {
+        written += put_answer(&input[start..end], output, written);
+        start = end + 1;
+        end = end_from(input, start);
     }
     Ended { written, start }
 }

@@ -2,4 +2,5 @@
 // lines. No public function has a `requires`, and the contract of each is an equation, or a relation that
 // allows one answer only.
 pub mod block;
+mod feed;
 pub mod page;

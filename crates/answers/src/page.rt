@@ -1,13 +1,16 @@
 // A page of lines, the day or refusal of each in a place of its own.
+use crate::feed::end_from;
+use crate::feed::feeds_at;
 use calendar::refusal::Refusal;
 use calendar::refusal::refusal_number;
 use dating::line::number_of_line;
 use places::number::put_number;
 ghost use mathlib.Core.Path.{_≡_};
-ghost use Prim.Native.Nat.{_/_, _≤_};
+ghost use Prim.Native.Nat.{_+_, _/_, _≤_};
 ghost use lib.ListN.{length};
 ghost use Rattle.answers.specs.Lines.{linesOf};
 ghost use Rattle.answers.specs.Page.{pageAnswer, Filled, FillsPage, linesOrZero, pageRefusal};
+ghost use Rattle.answers.specs.Steps.{TellsLine};
 
 // The number of lines of a page, or why it is refused.
 pub enum PageAnswer {
@@ -22,6 +25,10 @@ fn count_lines(page: &[u8]) -> usize
     let end = page.len();
     let mut count = 0;
     let mut i = 0;
+    while end - i >= 16 {
+        count += feeds_at(page, i);
+        i += 16;
+    }
     while i < end {
         if page[i] == b'\n' {
             count += 1;
@@ -37,6 +44,83 @@ fn count_lines(page: &[u8]) -> usize
     count + 1
 }
 
+// Four bytes as a number, the first the lowest.
+fn pack4(a: u8, b: u8, c: u8, d: u8) -> u32 {
+    a as u32 + 256 * b as u32 + 65536 * c as u32 + 16777216 * d as u32
+}
+
+// Two such numbers as one.
+fn pack8(low: u32, high: u32) -> u64 {
+    low as u64 + 4294967296 * high as u64
+}
+
+// How many of the eight bytes from a place on stand before their first line feed, by a number whose bytes are 128 for a line feed and 0 for any
+// other; nothing is promised of it, since it only guesses.
+fn before_feed(page: &[u8], at: usize) -> usize
+    requires { ⌜ at + 8 ≤ length (now page) ⌝ }
+    ensures { λ r. ⌜ r ≤ 8 ⌝ }
+{
+    let low = pack4(page[at], page[at + 1], page[at + 2], page[at + 3]);
+    let high = pack4(page[at + 4], page[at + 5], page[at + 6], page[at + 7]);
+    let other = pack8(low, high) ^ 0x0a0a0a0a0a0a0a0a;
+    let some = (other & 0x7f7f7f7f7f7f7f7f) + 0x7f7f7f7f7f7f7f7f;
+    u64::trailing_zeros(!(some | other) & 0x8080808080808080) as usize / 8
+}
+
+// Where the line that begins at a place may end; no line that is produced has fewer than seven bytes, so they are left out.
+fn end_guess(page: &[u8], start: usize) -> usize
+    requires { ⌜ start ≤ length (now page) ⌝ }
+    ensures { λ r. ⌜ (start ≤ r) × (r ≤ length (now (page .entry))) ⌝ }
+{
+    let mut i = start;
+    while page.len() - i >= 23 {
+        let near = before_feed(page, i + 7);
+        let far = before_feed(page, i + 15);
+        let before = if near < 8 { near } else { 8 + far };
+        if before < 16 {
+            return i + 7 + before;
+        }
+        i += 16;
+    }
+    end_from(page, i)
+}
+
+// The day or refusal of a line, and where the line ends.
+struct Numbered {
+    number: u32,
+    end: usize,
+}
+
+// The line that begins at a place: where the grammar produces what stands before the guessed end, that has no line feed, so the guess is right.
+fn line_at(page: &[u8], start: usize) -> Numbered
+    requires { ⌜ start ≤ length (now page) ⌝ }
+    ensures { λ r. ⌜ TellsLine (now (page .entry)) start r ⌝ }
+{
+    let guess = end_guess(page, start);
+    let guessed = number_of_line(&page[start..guess]);
+    if guessed > 3 {
+        if guess < page.len() {
+            if page[guess] == b'\n' {
+                return Numbered {
+                    number: guessed,
+                    end: guess,
+                };
+            }
+        }
+    }
+    let end = end_from(page, start);
+    if end == guess {
+        return Numbered {
+            number: guessed,
+            end,
+        };
+    }
+    Numbered {
+        number: number_of_line(&page[start..end]),
+        end,
+    }
+}
+
 // Puts the day or refusal of each line of a page in its place, where there are places enough.
 fn fill_places(page: &[u8], places: &mut [u8])
     requires { ⌜ length (linesOf (now page)) ≤ length (now places) / 4 ⌝ }
@@ -44,19 +128,11 @@ fn fill_places(page: &[u8], places: &mut [u8])
 {
     let mut place = 0;
     let mut start = 0;
-    let mut i = 0;
-    while i < page.len() {
-        if page[i] == b'\n' {
-            let number = number_of_line(&page[start..i]);
-            put_number(places, place, number);
-            place += 4;
-            start = i + 1;
-        }
-        i += 1;
-    }
-    if start < page.len() {
-        let number = number_of_line(&page[start..]);
-        put_number(places, place, number);
+    while start < page.len() {
+        let line = line_at(page, start);
+        put_number(places, place, line.number);
+        place += 4;
+        start = line.end + 1;
     }
 }
 

@@ -1,4 +1,4 @@
--- What is kept of a line that is still open, a block byte by byte, and the calls.
+-- What is kept of a line that is still open, a block line by line, and the calls.
 use mathlib.Core.Bool.{false}
 use mathlib.Core.List.{List, [], _∷_, _++_}
 use mathlib.Core.Logic.{_↔_, _⊎_, inl, inr}
@@ -23,7 +23,7 @@ use Rattle.words.specs.Text.{has, over}
 use Rattle.dating.specs.Answer.{lineFeed, IsAnswer, PutsAnswer}
 use Rattle.answers.specs.Block.{kept, Written, AnswersBlock, AnswersLast, joined, Run}
 use Rattle.answers.specs.Lines.{endedLines, openLine, lastLine, Answers}
-use Rattle.answers.specs.Steps.{AnswersEnded}
+use Rattle.answers.specs.Steps.{Quiet, AnswersEnded}
 use Rattle.answers.specs.declared.block.Ended.{Ended}
 use Rattle.answers.specs.declared.block.Progress.{Progress}
 
@@ -130,7 +130,7 @@ run-back o (b ∷ bs) t lacks h =
     let there = run-back (openLine o b) bs u (open-lacks o b lacks) rest in
     (a, (u, (rw (kept-lines o b lacks) here, (rw (kept-next o b lacks) there, e))))
 
--- ---- a block byte by byte
+-- ---- a block line by line
 -- the lines that end in the first i bytes of s are answered, each with at most four times the bytes of the line with its line feed
 pub record Answering (s before : List ℕ) (written start i : ℕ) (after : List ℕ) : Type 0 where
   pub sofar : Sofar IsAnswer s before written start i after
@@ -140,10 +140,10 @@ pub at-first : (s before : List ℕ) → Answering s before 0 0 0 before
 at-first s before = record { sofar = walk.at-first IsAnswer s before; small = omega arith }
 
 module _ {s before : List ℕ} {written start i : ℕ} {after : List ℕ} (p : Answering s before written start i after) where
-  module _ (more : i < length s) where
-    pub another-byte : (getD s i 0 ≡ lineFeed → ⊥) → Answering s before written start (i + 1) after
-    another-byte other = record { sofar = walk.another-byte (p .sofar) more other; small = p .small }
+  pub passed : (j : ℕ) → Quiet s i j → Answering s before written start j after
+  passed j quiet = record { sofar = walk.passed (p .sofar) j quiet; small = p .small }
 
+  module _ (more : i < length s) where
     pub line-end : 4 * length s + 25 ≤ length before → (now : List ℕ) (r : ℕ) → getD s i 0 ≡ lineFeed
         → PutsAnswer (take (i - start) (drop start s)) written after now r → Answering s before (written + r) (i + 1) (i + 1) now
     line-end room now r ends h = go (rw (le-leb (written + 25) (length after) has-room) at h)

@@ -1,23 +1,28 @@
 -- Lines counted byte by byte, and their places filled one behind the other.
 use mathlib.Core.Bool.{true, false}
 use mathlib.Core.List.{List, [], _∷_, _++_, append-nil}
+use mathlib.Core.Logic.{_⊎_, inl, inr}
 use mathlib.Core.Path.{_≡_, refl, sym, _∙_, ap}
 use Prim.Native.Nat.{ℕ, _+_, _-_, _*_, _/_, _<_, _≤_}
+use native.Mathlib.Decide.{decLt}
 use native.Mathlib.Omega.{arith}
 use lib.ListN.{length, take, drop, getD, length-append, length-drop, take-append-drop, drop-of-length-le}
-use lib.Seq.{take-all, sets}
-use borrow.Author.Tests.{leb-true, le-leb, lt-leb}
+use lib.Seq.{length-take-le, take-all, take-add, sets, length-sets}
+use borrow.Author.Tests.{eq-eqb, ne-eqb, leb-true, le-leb, lt-leb}
 use Rattle.calendar.proofs.refusal.Laws.{AllPass}
+use Rattle.words.proofs.text.Laws.{rest}
 use Rattle.places.proofs.Bytes.{sets-both, sets-start}
 use Rattle.places.proofs.Turn.{turn-append, turn-one, turn-length}
 use Rattle.places.proofs.number.Laws.{number-length, number-first}
 use Rattle.answers.proofs.Lines.{ended-append, last-some}
-use Rattle.answers.proofs.Walk.{line-feed, no-line-feed, one-more, Sofar, sofar-length, line-end, all-told, all-left}
+use Rattle.answers.proofs.feed.Laws.{feeds-append, feeds-few, ended-feeds, one-feed}
+use Rattle.answers.proofs.Walk.{line-feed, no-line-feed, one-more, Sofar, sofar-length, passed, line-end, all-told, all-left}
 use Rattle.calendar.specs.Refusal.{Test, _unless_, checked}
 use Rattle.dating.specs.Answer.{lineFeed}
 use Rattle.dating.specs.Line.{IsNumberOfLine}
 use Rattle.places.specs.Number.{numberBytes, withNumber}
 use Rattle.answers.specs.Lines.{endedLines, openLine, lastLine, linesOf}
+use Rattle.answers.specs.Steps.{feeds, between, EndsAt}
 use Rattle.answers.specs.Page.{pageTests, pageAnswer, IsPlace, Filled, FillsPage}
 use Rattle.calendar.specs.declared.refusal.Refusal.the-variants.{Length}
 use Rattle.calendar.specs.declared.refusal.Refusal.{Refusal}
@@ -28,26 +33,30 @@ use Rattle.answers.specs.declared.page.PageAnswer.the-variants.{Lines, N
 line-count : (s : List ℕ) → length (linesOf s) ≡ length (endedLines [] s) + length (lastLine (openLine [] s))
 line-count s = length-append (endedLines [] s) (lastLine (openLine [] s))
 
--- the lines that end in the first i bytes are counted
+-- the line feeds in the first i bytes are counted
 pub record Counted (s : List ℕ) (count i : ℕ) : Type 0 where
-  pub lines : count ≡ length (endedLines [] (take i s))
-  pub few : count ≤ i
+  pub inside : i ≤ length s
+  pub lines : count ≡ feeds (take i s)
 
 pub count-first : (s : List ℕ) → Counted s 0 0
-unfolding endedLines
-count-first s = record { lines = refl; few = omega arith }
+unfolding feeds
+count-first s = record { inside = omega arith; lines = refl }
 
-module _ {s : List ℕ} {count i : ℕ} (p : Counted s count i) (more : i < length s) where
-  pub count-end : getD s i 0 ≡ lineFeed → Counted s (count + 1) (i + 1)
-  count-end ends =
-      let next = line-feed (take i s) (getD s i 0) ends in
-      let one = length-append (endedLines [] (take i s)) (openLine [] (take i s) ∷ []) in
-      record { lines = rw (one-more s i more, next .0) (omega (arith, p .lines)); few = omega (arith, p .few) }
+module _ {s : List ℕ} {count i : ℕ} (p : Counted s count i) where
+  pub count-few : count ≤ i
+  count-few = let inside = p .inside in omega (arith, p .lines, feeds-few (take i s), length-take-le i s inside)
 
-  pub count-byte : (getD s i 0 ≡ lineFeed → ⊥) → Counted s count (i + 1)
-  count-byte other =
-      let next = no-line-feed (take i s) (getD s i 0) other in
-      record { lines = rw (one-more s i more, next .0) (p .lines); few = omega (arith, p .few) }
+  pub count-on : (n : ℕ) → i + n ≤ length s → Counted s (count + feeds (take n (drop i s))) (i + n)
+  count-on n fits = record { inside = fits; lines = rw (take-add i n s, feeds-append (take i s) (take n (drop i s)), p .lines) }
+
+  module _ (more : i < length s) where
+    pub count-end : getD s i 0 ≡ lineFeed → Counted s (count + 1) (i + 1)
+    count-end ends = rw (one-feed s i more, eq-eqb (getD s i 0) lineFeed ends) at (count-on 1 (omega arith))
+
+    pub count-byte : (getD s i 0 ≡ lineFeed → ⊥) → Counted s count (i + 1)
+    count-byte other =
+        let same : count + 0 ≡ count = omega arith in
+        rw (one-feed s i more, ne-eqb (getD s i 0) lineFeed other, same) at (count-on 1 (omega arith))
 
 pub no-lines : (s : List ℕ) → length s ≡ 0 → length (linesOf s) ≡ 0
 unfolding endedLines openLine
@@ -68,7 +77,7 @@ module _ {s : List ℕ} {count i : ℕ} (p : Counted s count i) (end : length s 
       sym (take-all (length s - 1 + 1) s (omega arith)) ∙ one-more s (length s - 1) (omega arith)
 
   all-counted : count ≡ length (endedLines [] s)
-  all-counted = rw (take-all i s end) at (p .lines)
+  all-counted = rw (take-all i s end) at (p .lines) ∙ sym (ended-feeds [] s)
 
   pub ended-count : last ≡ lineFeed → count ≡ length (linesOf s)
   ended-count ends =
@@ -150,6 +159,56 @@ module _ {s before : List ℕ} {place start i : ℕ} {after : List ℕ} (p : Sof
                 put ∙ sets-start (p .text ++ t) before (omega (arith, last-room, p .count)),
               ),
             )
+
+-- the lines before start are told; or all are, and start lies behind the page, since its last line lacks a line feed
+abbrev pub Filling : (s before : List ℕ) (place start : ℕ) (after : List ℕ) → Type 0
+Filling s before place start after =
+    Sofar IsPlace s before place start start after ⊎ ((length s < start) × Filled s before after × (length after ≡ length before))
+
+module _ {s before : List ℕ} {place start : ℕ} {after : List ℕ} where
+  pub filling-length : Filling s before place start after → length after ≡ length before
+  filling-length (inl p) = sofar-length p
+  filling-length (inr (far, done, same)) = same
+
+  module _ (room : length (linesOf s) ≤ length before / 4) where
+    pub all-filled : Filling s before place start after → length s ≤ start → Filled s before after
+    all-filled (inl p) end = filled p room end end
+    all-filled (inr (far, done, same)) end = done
+
+    module _ (f : Filling s before place start after) (some : start < length s) (e : ℕ) (ends : EndsAt s start e) where
+      abbrev toLine : Type 0
+      toLine = Sofar IsPlace s before place start e after
+
+      to-line : toLine
+      to-line = go f
+        where
+          go : Filling s before place start after → toLine
+          go (inl p) = passed p e (ends .quiet)
+          go (inr (far, done, same)) = absurd (omega arith)
+
+      inside : e ≤ length s
+      inside = ends .quiet .inside
+
+      -- the line has its place, whether a line feed ends it or not
+      pub line-room : place + 4 ≤ length before
+      line-room =
+          elim (decLt e (length s)) [
+            | yes more ↦ rw (sofar-length to-line) at (end-room to-line room more (ends .feed more))
+            | no last ↦ last-room to-line room (omega (arith, inside)) some
+          ]
+
+      pub fill-line : (n : ℕ) (now : List ℕ) → IsNumberOfLine (between s start e) n → now ≡ withNumber after place n
+          → Filling s before (place + 4) (e + 1) now
+      fill-line n now told bytes =
+          elim (decLt e (length s)) [
+            | yes more ↦ inl (fill-next to-line room more (ends .feed more) n now told bytes)
+            | no last ↦
+                let whole : e ≡ length s = omega (arith, inside) in
+                let line = rw (whole, rest start s) at told in
+                let same = sofar-length to-line in
+                let put = bytes ∙ number-first after place n (omega (arith, line-room)) in
+                inr (omega arith, last-filled to-line room (omega arith) some n now line bytes, ap length put ∙ length-sets after place (numberBytes n) ∙ same)
+          ]
 
 -- ---- what the calls answer
 module _ (s : List ℕ) (size : ℕ) where
