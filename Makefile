@@ -43,7 +43,7 @@ lib: kit
 wasm: kit
 	web/build
 
-# Times of the calls on transcripts and on pages, which are no part of the test.
+# Times of the calls on dates, on pages and on transcripts, and of datelines, which are no part of the test.
 bench: kit
 	bench/run
 

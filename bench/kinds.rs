@@ -1,6 +1,8 @@
-//! The kinds of lines that are measured, made by a small random generator that makes the same ones in every run.
+//! The kinds of lines that are measured, which are the same in every run; the program that has them tells the answer to a line.
 
-use crate::reader::{self, LONGEST_LINE};
+use crate::answer;
+use crate::random::Random;
+use crate::reader::LONGEST_LINE;
 use crate::words::{FIXED, HUNG, WEEKDAYS};
 
 /// The least day; what is answered below it is a refusal.
@@ -15,32 +17,6 @@ pub const KINDS: [(&str, fn(&mut Random) -> String); 6] = [
     ("long chains of wrappers", chain),
     ("refused", refused),
 ];
-
-/// Steele, Lea and Flood's SplitMix64.
-pub struct Random(pub u64);
-
-impl Random {
-    fn next(&mut self) -> u64 {
-        self.0 = self.0.wrapping_add(0x9e37_79b9_7f4a_7c15);
-        let mixed = (self.0 ^ (self.0 >> 30)).wrapping_mul(0xbf58_476d_1ce4_e5b9);
-        let mixed = (mixed ^ (mixed >> 27)).wrapping_mul(0x94d0_49bb_1331_11eb);
-        mixed ^ (mixed >> 31)
-    }
-
-    /// A number from `least` to `most`.
-    fn among(&mut self, least: u64, most: u64) -> u64 {
-        least + self.next() % (most - least + 1)
-    }
-
-    /// True in so many of a hundred cases.
-    fn percent(&mut self, cases: u64) -> bool {
-        self.among(1, 100) <= cases
-    }
-
-    fn one_of<T: Copy>(&mut self, list: &[T]) -> T {
-        list[self.among(0, list.len() as u64 - 1) as usize]
-    }
-}
 
 fn feast_word(random: &mut Random) -> &'static str {
     match random.among(0, 47) as usize {
@@ -157,13 +133,11 @@ fn doubtful(random: &mut Random) -> String {
     }
 }
 
-/// A line that the plain reader refuses.
+/// A line that is refused.
 fn refused(random: &mut Random) -> String {
     loop {
         let line = doubtful(random);
-        let mut place = [0; 4];
-        reader::read(format!("{line}\n").as_bytes(), &mut place);
-        if u32::from_le_bytes(place) < FIRST_DAY {
+        if answer(line.as_bytes()) < FIRST_DAY {
             return line;
         }
     }

@@ -1,18 +1,23 @@
 //! Measures pages of lines through qv_page, through qv_line and through the plain reader. For qv_line a page is cut as a C program would
-//! cut it, by memchr, which is part of the time. The three take turns on every page; before each turn the page is copied to the same
-//! buffer and the places are cleared, which is no part of the time. First all three must give the same answers to the stored lines and to
-//! every page.
+//! cut it, by memchr, which is part of the time. Before it is read each page is copied to the same buffer and the places are cleared,
+//! which is no part of the time. First all three must give the same answers to the stored lines and to every page.
 
 mod kinds;
+mod random;
 mod reader;
+mod times;
 mod words;
 
-use kinds::{KINDS, Random};
-use reader::LONGEST_PAGE;
+use kinds::KINDS;
+use random::Random;
 use std::ffi::{c_int, c_void};
 use std::hint::black_box;
 use std::process::ExitCode;
-use std::time::{Duration, Instant};
+use std::time::Instant;
+use times::{print_heading, print_times, times};
+
+/// The most bytes of a page.
+const LONGEST_PAGE: usize = 65536;
 
 const LINES: usize = 500;
 const PAGES: usize = 200;
@@ -28,7 +33,7 @@ unsafe extern "C" {
 /// Fills the places with the answers to a page's lines, and tells how many lines there are.
 type Reader = fn(&[u8], &mut [u8]) -> usize;
 
-const READERS: [(&str, Reader); 3] = [("qv_page", whole), ("qv_line", line_by_line), ("plain", reader::read)];
+const READERS: [(&str, Reader); 3] = [("qv_page", whole), ("qv_line", line_by_line), ("plain", plain)];
 
 fn whole(page: &[u8], places: &mut [u8]) -> usize {
     unsafe { qv_page(page.as_ptr(), page.len(), places.as_mut_ptr(), places.len()) }
@@ -54,6 +59,30 @@ fn line_by_line(page: &[u8], places: &mut [u8]) -> usize {
         let line = first_line(rest);
         place.copy_from_slice(&answer(line).to_le_bytes());
         rest = rest.get(line.len() + 1..).unwrap_or_default();
+        count += 1;
+    }
+    count
+}
+
+/// How many lines a page has; 255 line feeds are the most that a byte counts.
+fn lines(page: &[u8]) -> usize {
+    let feeds = |part: &[u8]| usize::from(part.iter().map(|&byte| u8::from(byte == b'\n')).sum::<u8>());
+    page.chunks(255).map(feeds).sum::<usize>() + usize::from(page.last().is_some_and(|&last| last != b'\n'))
+}
+
+/// Answers as qv_page does: 0 for too long a page or too few places, which then stay as they are.
+fn plain(page: &[u8], places: &mut [u8]) -> usize {
+    if page.len() > LONGEST_PAGE || lines(page) > places.len() / 4 {
+        return 0;
+    }
+    let (mut start, mut count) = (0, 0);
+    for place in places.chunks_exact_mut(4) {
+        if start >= page.len() {
+            break;
+        }
+        let (answer, _, end) = reader::line(page, start);
+        place.copy_from_slice(&answer.to_le_bytes());
+        start = end + 1;
         count += 1;
     }
     count
@@ -90,7 +119,7 @@ fn agreed(page: &[u8]) -> Result<usize, String> {
     }
     let mut few = vec![0; 4 * wanted.len() - 1];
     let refusals = [4 * wanted.len(), few.len()].map(|size| unsafe { qv_page_refusal(page.as_ptr(), page.len(), size) });
-    if refusals != [0, 2] || whole(page, &mut few) != 0 || reader::read(page, &mut few) != 0 || few.iter().any(|&byte| byte != 0) {
+    if refusals != [0, 2] || whole(page, &mut few) != 0 || plain(page, &mut few) != 0 || few.iter().any(|&byte| byte != 0) {
         return Err("a page with a place too few is not refused alike".into());
     }
     Ok(wanted.len())
@@ -102,49 +131,24 @@ fn pages(line: fn(&mut Random) -> String, random: &mut Random) -> Vec<Vec<u8>> {
     (0..PAGES).map(page).collect()
 }
 
-/// For each reader the nanoseconds that it takes for a line, the least and the median of all rounds on a page, over all pages.
-fn times(pages: &[Vec<u8>]) -> [(f64, f64); 3] {
+fn measure(name: &str, pages: &[Vec<u8>]) {
     let mut buffer = Vec::with_capacity(LONGEST_PAGE);
     let mut places = vec![0; 4 * LINES];
-    let mut spent = vec![[[Duration::ZERO; ROUNDS]; 3]; pages.len()];
-    for round in 0..ROUNDS {
-        for (i, page) in pages.iter().enumerate() {
-            for turn in 0..3 {
-                let which = (round + i + turn) % 3;
-                buffer.clone_from(page);
-                places.fill(0);
-                let before = Instant::now();
-                READERS[which].1(black_box(&buffer), black_box(&mut places));
-                spent[i][which][round] = before.elapsed();
-            }
-        }
-    }
-    spent.iter_mut().flatten().for_each(|rounds| rounds.sort());
-    let of_line = |which: usize, rank: usize| {
-        let whole: Duration = spent.iter().map(|page| page[which][rank]).sum();
-        whole.as_nanos() as f64 / (LINES * pages.len()) as f64
-    };
-    [0, 1, 2].map(|which| (of_line(which, 0), of_line(which, ROUNDS / 2)))
-}
-
-fn measure(name: &str, pages: &[Vec<u8>]) {
-    let [page, line, plain] = times(pages);
-    print!("{name:24}");
-    for (least, median) in [page, line, plain] {
-        print!("{least:9.1} {median:6.1}");
-    }
-    for (least, median) in [page, line] {
-        print!("{:9.2} {:6.2}", least / plain.0, median / plain.1);
-    }
-    println!();
+    let times: [_; 3] = times(ROUNDS, PAGES, |way, page| {
+        buffer.clone_from(&pages[page]);
+        places.fill(0);
+        let before = Instant::now();
+        READERS[way].1(black_box(&buffer), black_box(&mut places));
+        before.elapsed()
+    });
+    print_times(name, LINES * PAGES, &times);
 }
 
 fn run(stored: &[u8]) -> Result<(), String> {
     let counts = cut(stored).into_iter().map(agreed).collect::<Result<Vec<_>, _>>()?;
     println!("{} stored lines are answered alike", counts.iter().sum::<usize>());
-    println!("nanoseconds a line, the least and the median of {ROUNDS} rounds on each of {PAGES} pages of {LINES} lines, and how many times");
-    println!("those of the plain reader they are");
-    println!("{:24}{:>16}{:>16}{:>16}{:>16}{:>16}", "lines", "qv_page", "qv_line", "plain", "qv_page/plain", "qv_line/plain");
+    println!("nanoseconds a line, the least and the median of {ROUNDS} rounds on each of {PAGES} pages of {LINES} lines");
+    print_heading("lines", &READERS.map(|(name, _)| name));
     let mut random = Random(11);
     for (name, line) in KINDS {
         let pages = pages(line, &mut random);

@@ -1,12 +1,9 @@
-//! A plain reader of pages, written for speed, which the library is measured against. It goes once over a line, from left to right, and
+//! A plain reader of lines, written for speed, which the library is measured against. It goes once over a line, from left to right, and
 //! looks for a line feed only where the line is refused. A wrapper or feast word is told by one look into the table of words: its first
 //! bytes multiplied are its slot, and all of it is compared as one number. A year too is read as one number. Days come from closed forms,
 //! the same for every feast.
 
 use crate::words::{Place, STAY, Step, WORDS, Word, place, slot};
-
-/// The most bytes of a page.
-pub const LONGEST_PAGE: usize = 65536;
 
 /// The most bytes of a line.
 pub const LONGEST_LINE: usize = 120;
@@ -27,6 +24,9 @@ const GREGORIAN: (u32, u32) = (2299161, 5373484 - 2299161);
 
 /// Days of each month in a common year, by its number.
 static LENGTHS: [u32; 13] = [0, 31, 28, 31, 30, 31, 30, 31, 31, 30, 31, 30, 31];
+
+/// The day or the refusal of a line, whether its style is the Gregorian, and its end.
+type Told = (u32, bool, usize);
 
 /// The feast or date of a line.
 enum Anchor {
@@ -167,8 +167,8 @@ fn day(wrappers: &[u8], anchor: Anchor, year: u32, gregorian: bool) -> u32 {
     if outside { SPAN } else { day }
 }
 
-/// The refusal of a line that the grammar does not produce, and its end; before `at` it has no line feed.
-fn refused(page: &[u8], start: usize, mut at: usize) -> (u32, usize) {
+/// What is told of a line that the grammar does not produce, of no style; before `at` it has no line feed.
+fn refused(page: &[u8], start: usize, mut at: usize) -> Told {
     let end = loop {
         let count = before_first(b'\n', sixteen(page, at)) as usize;
         at += count;
@@ -176,11 +176,12 @@ fn refused(page: &[u8], start: usize, mut at: usize) -> (u32, usize) {
             break at;
         }
     };
-    (if (1..=LONGEST_LINE).contains(&(end - start)) { FORM } else { LENGTH }, end)
+    let answer = if (1..=LONGEST_LINE).contains(&(end - start)) { FORM } else { LENGTH };
+    (answer, false, end)
 }
 
-/// The day or the refusal of the line that starts at a place of the page, and its end.
-fn line(page: &[u8], start: usize) -> (u32, usize) {
+/// What is told of the line that starts at a place of the page.
+pub fn line(page: &[u8], start: usize) -> Told {
     let mut wrappers = [0; MOST_WRAPPERS];
     let mut count = 0;
     let mut at = start;
@@ -210,30 +211,6 @@ fn line(page: &[u8], start: usize) -> (u32, usize) {
         return refused(page, start, at);
     };
     let end = at + length;
-    (if end - start > LONGEST_LINE { LENGTH } else { day(&wrappers[..count], anchor, year, gregorian) }, end)
-}
-
-/// How many lines a page has; 255 line feeds are the most that a byte counts.
-fn lines(page: &[u8]) -> usize {
-    let feeds = |part: &[u8]| usize::from(part.iter().map(|&byte| u8::from(byte == b'\n')).sum::<u8>());
-    page.chunks(255).map(feeds).sum::<usize>() + usize::from(page.last().is_some_and(|&last| last != b'\n'))
-}
-
-/// Puts the day or the refusal of each line into a place of four bytes, low byte first, and answers how many lines there are; 0 for too
-/// long a page or too few places, which then stay as they are.
-pub fn read(page: &[u8], places: &mut [u8]) -> usize {
-    if page.len() > LONGEST_PAGE || lines(page) > places.len() / 4 {
-        return 0;
-    }
-    let (mut start, mut count) = (0, 0);
-    for place in places.chunks_exact_mut(4) {
-        if start >= page.len() {
-            break;
-        }
-        let (answer, end) = line(page, start);
-        place.copy_from_slice(&answer.to_le_bytes());
-        start = end + 1;
-        count += 1;
-    }
-    count
+    let answer = if end - start > LONGEST_LINE { LENGTH } else { day(&wrappers[..count], anchor, year, gregorian) };
+    (answer, gregorian, end)
 }
