@@ -1,11 +1,11 @@
 -- A walk over bytes, in which what is told of a line is put when the line ends.
 use mathlib.Core.List.{List, [], _∷_, _++_, append-nil}
 use mathlib.Core.Path.{_≡_, refl, sym, _∙_, ap}
-use Prim.Native.Nat.{ℕ, suc, _+_, _-_, _<_, _≤_}
+use Prim.Native.Nat.{ℕ, _+_, _-_, _<_, _≤_}
 use native.Mathlib.Numerals.{add-one}
 use native.Mathlib.Omega.{arith}
-use lib.ListN.{length, take, drop, getD, length-append, length-drop}
-use lib.Seq.{take-all, take-add, take-suc, drop-drop, getD-drop, sets, length-sets}
+use lib.ListN.{length, take, drop, getD, length-append}
+use lib.Seq.{take-all, take-add, take-suc, drop-drop, sets, length-sets}
 use borrow.Author.Tests.{eq-eqb, ne-eqb}
 use Rattle.words.proofs.text.Laws.{rest}
 use Rattle.places.proofs.Bytes.{sets-both}

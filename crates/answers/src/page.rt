@@ -5,6 +5,8 @@ use calendar::refusal::Refusal;
 use calendar::refusal::refusal_number;
 use dating::line::number_of_line;
 use places::number::put_number;
+use words::text::pack4;
+use words::text::pack8;
 ghost use mathlib.Core.Path.{_≡_};
 ghost use Prim.Native.Nat.{_+_, _/_, _≤_};
 ghost use lib.ListN.{length};
@@ -42,16 +44,6 @@ fn count_lines(page: &[u8]) -> usize
         return count;
     }
     count + 1
-}
-
-// Four bytes as a number, the first the lowest.
-fn pack4(a: u8, b: u8, c: u8, d: u8) -> u32 {
-    a as u32 + 256 * b as u32 + 65536 * c as u32 + 16777216 * d as u32
-}
-
-// Two such numbers as one.
-fn pack8(low: u32, high: u32) -> u64 {
-    low as u64 + 4294967296 * high as u64
 }
 
 // How many of the eight bytes from a place on stand before their first line feed, by a number whose bytes are 128 for a line feed and 0 for any

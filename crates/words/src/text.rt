@@ -8,14 +8,14 @@ ghost use Rattle.words.specs.Steps.{four, outerOf, innerOf};
 ghost use Rattle.words.specs.Text.{BehindLast};
 
 // Four bytes as a number, the first the lowest.
-fn pack4(a: u8, b: u8, c: u8, d: u8) -> u32
+pub fn pack4(a: u8, b: u8, c: u8, d: u8) -> u32
     ensures { λ r. ⌜ r ≡ a + 256 * b + 65536 * c + 16777216 * d ⌝ }
 {
     a as u32 + 256 * b as u32 + 65536 * c as u32 + 16777216 * d as u32
 }
 
 // Two such numbers as one.
-fn pack8(low: u32, high: u32) -> u64
+pub fn pack8(low: u32, high: u32) -> u64
     ensures { λ r. ⌜ r ≡ low + 4294967296 * high ⌝ }
 {
     low as u64 + 4294967296 * high as u64

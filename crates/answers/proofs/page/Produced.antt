@@ -1,7 +1,7 @@
 -- What the grammar produces has no line feed.
 use mathlib.Core.Bool.{false, not}
-use mathlib.Core.List.{List, [], _∷_, _++_}
-use mathlib.Core.Path.{_≡_, refl, ap}
+use mathlib.Core.List.{List, [], _∷_}
+use mathlib.Core.Path.{_≡_, refl}
 use Prim.Native.Nat.{ℕ, suc, _-_, _<_, _≤_}
 use native.Mathlib.Omega.{arith}
 use lib.Dec.{T}
@@ -9,21 +9,20 @@ use borrow.Author.Tests.{not-true}
 use Rattle.calendar.proofs.Each.{each, below, is-true}
 use Rattle.words.proofs.numeral.Laws.{numeral-lacks}
 use Rattle.words.proofs.text.Laws.{has-append}
+use Rattle.words.proofs.word.Laws.{feast-lacks}
 use Rattle.calendar.specs.Style.{styleLetter}
 use Rattle.words.specs.Numeral.{numeral}
 use Rattle.words.specs.Text.{space, point, has}
 use Rattle.words.specs.Told.{produced, unproduced}
-use Rattle.words.specs.Word.{feastWord}
 use Rattle.words.specs.Wrapper.{weekdayWord, sideWord, wrapperWords, GoodWrapper}
 use Rattle.dating.specs.Anchor.{Anchor, feast, date, spellAnchor, GoodAnchor}
 use Rattle.dating.specs.Answer.{lineFeed}
-use Rattle.dating.specs.Line.{Line, ending, GoodYear, spellLine, GoodLine, unfit, fit, IsNumberOfLine}
+use Rattle.dating.specs.Line.{Line, ending, spellLine, GoodLine, unfit, fit, IsNumberOfLine}
 use Rattle.dating.specs.Phrase.{Phrase, plain, wrapped, spellPhrase, GoodPhrase}
 use Rattle.calendar.specs.declared.style.Style.the-variants.{Julian, Gregorian}
 use Rattle.calendar.specs.declared.style.Style.{Style}
 use Rattle.calendar.specs.declared.weekday.Side.the-variants.{After, Before}
 use Rattle.calendar.specs.declared.weekday.Side.{Side}
-use Rattle.calendar.specs.declared.year.NamedYear.{NamedYear}
 use Rattle.words.specs.declared.wrapper.Wrapper.the-variants.{Eve, Morrow, Octave, First}
 use Rattle.words.specs.declared.wrapper.Wrapper.{Wrapper}
 
@@ -34,13 +33,9 @@ Lacks s = has lineFeed s ≡ false
 each-lacks : (word : ℕ → List ℕ) (n : ℕ) → T (each (λ k. not (has lineFeed (word (suc k)))) n) → (k : ℕ) → 1 ≤ k → k ≤ n → Lacks (word k)
 each-lacks word n t k low high =
     let number : suc (k - 1) ≡ k = omega arith in
-    let has-none = not (has lineFeed (word (suc (k - 1)))) in
-    let tested = below (λ k. not (has lineFeed (word (suc k)))) n t (k - 1) (omega arith) in
-    rw number at (not-true (has lineFeed (word (suc (k - 1)))) (is-true has-none tested))
-
-feast-lacks : (f : ℕ) → 1 ≤ f → f ≤ 48 → Lacks (feastWord f)
-unfolding has
-feast-lacks f low high = each-lacks feastWord 48 tt f low high
+    let lacks = not (has lineFeed (word (suc (k - 1)))) in
+    let tested = is-true lacks (below (λ k. not (has lineFeed (word (suc k)))) n t (k - 1) (omega arith)) in
+    rw number at (not-true (has lineFeed (word (suc (k - 1)))) tested)
 
 weekday-lacks : (w : ℕ) → 1 ≤ w → w ≤ 7 → Lacks (weekdayWord w)
 unfolding has
@@ -63,7 +58,7 @@ wrapper-lacks (First x w) g = has-append lineFeed (weekdayWord w) (sideWord x) (
 
 anchor-lacks : (a : Anchor) → GoodAnchor a → Lacks (spellAnchor a)
 unfolding spellAnchor GoodAnchor has
-anchor-lacks (feast f) g = feast-lacks f (g .0) (g .1)
+anchor-lacks (feast f) g = feast-lacks lineFeed f (omega arith) (g .0) (g .1)
 anchor-lacks (date d m) g =
     has-append lineFeed (numeral d) (point ∷ numeral m) (number-lacks d (g .0 .0) (omega (arith, g))) (number-lacks m (g .1 .0) (omega (arith, g)))
 

@@ -7,7 +7,7 @@ use Prim.Native.Nat.{ℕ, zero, suc, _-_, _<_, _≤_}
 use native.Mathlib.Decide.{decLt}
 use native.Mathlib.Omega.{arith}
 use lib.Dec.{eqb}
-use lib.ListN.{length, take, drop, getD, length-drop, take-append-drop}
+use lib.ListN.{length, take, drop, getD, length-drop}
 use lib.Seq.{drop-cons, drop-length, split-at, take-all}
 use borrow.Author.Tests.{eq-eqb, ne-eqb}
 use Rattle.calendar.proofs.range.Laws.{range}
@@ -119,13 +119,3 @@ pub rest : (q : ℕ) (s : List ℕ) → take (length s - q) (drop q s) ≡ drop 
 rest q s =
     let all = length-drop q s in
     take-all (length s - q) (drop q s) (omega arith)
-
--- bytes and their last two
-pub last-two : (s : List ℕ) → 2 ≤ length s → take (length s - 2) s ++ getD s (length s - 2) 0 ∷ getD s (length s - 1) 0 ∷ [] ≡ s
-last-two s h =
-    let k : suc (length s - 2) ≡ length s - 1 = omega arith in
-    let l : suc (length s - 1) ≡ length s = omega arith in
-    let first = rw k at (drop-cons s (length s - 2) 0 (omega arith)) in
-    let second = rw l at (drop-cons s (length s - 1) 0 (omega arith)) in
-    let tail : getD s (length s - 2) 0 ∷ getD s (length s - 1) 0 ∷ [] ≡ drop (length s - 2) s = rw (first, second, drop-length s) in
-    rw tail (take-append-drop (length s - 2) s)

@@ -1,7 +1,6 @@
 use Prim.Native.Nat.{_-_}
 use native.Mathlib.Omega.{arith}
 use lib.ListN.{length}
-use borrow.Author.Needs.{needs}
 use Rattle.answers.proofs.feed.Laws.{quiet-first, quiet-on}
 use Rattle.answers.specs.Steps.{Quiet}
 use Rattle.answers.proofs.feed.quiet_from.Statement.{statement}
