@@ -8,8 +8,8 @@ ghost use lib.ListN.{length, take, drop};
 ghost use Rattle.dating.specs.Answer.{lineFeed};
 ghost use Rattle.answers.specs.Steps.{feeds, Quiet, EndsAt};
 
-// 1 for a line feed, and 0 for any other byte.
-fn is_feed(byte: u8) -> u8
+// How many line feeds one byte is: 1 or 0.
+fn feeds_of_one(byte: u8) -> u8
     ensures { λ r. ⌜ r ≡ cond (eqb byte lineFeed) 1 0 ⌝ }
     ensures { λ r. ⌜ r ≤ 1 ⌝ }
 {
@@ -21,7 +21,7 @@ fn feeds_of_four(a: u8, b: u8, c: u8, d: u8) -> u8
     ensures { λ r. ⌜ r ≡ feeds (a ∷ b ∷ c ∷ d ∷ []) ⌝ }
     ensures { λ r. ⌜ r ≤ 4 ⌝ }
 {
-    is_feed(a) + is_feed(b) + is_feed(c) + is_feed(d)
+    feeds_of_one(a) + feeds_of_one(b) + feeds_of_one(c) + feeds_of_one(d)
 }
 
 // How many of the sixteen bytes from a place on are line feeds; written out, so that they are compared at once.
@@ -41,7 +41,7 @@ pub(crate) fn feeds_at(bytes: &[u8], at: usize) -> usize
     (first + second + third + fourth) as usize
 }
 
-// A place from here on up to which there is no line feed.
+// A place from here on up to which there is no line feed: a shortcut, in steps of sixteen bytes.
 fn quiet_from(bytes: &[u8], start: usize) -> usize
     requires { ⌜ start ≤ length (now bytes) ⌝ }
     ensures { λ r. ⌜ Quiet (now (bytes .entry)) start r ⌝ }

@@ -46,8 +46,7 @@ fn count_lines(page: &[u8]) -> usize
     count + 1
 }
 
-// How many of the eight bytes from a place on stand before their first line feed, by a number whose bytes are 128 for a line feed and 0 for any
-// other; nothing is promised of it, since it only guesses.
+// How many of the eight bytes from a place on stand before their first line feed: a guess, of which only is promised that it is at most 8.
 fn before_feed(page: &[u8], at: usize) -> usize
     requires { ⌜ at + 8 ≤ length (now page) ⌝ }
     ensures { λ r. ⌜ r ≤ 8 ⌝ }
@@ -56,15 +55,17 @@ fn before_feed(page: &[u8], at: usize) -> usize
     let high = pack4(page[at + 4], page[at + 5], page[at + 6], page[at + 7]);
     let other = pack8(low, high) ^ 0x0a0a0a0a0a0a0a0a;
     let some = (other & 0x7f7f7f7f7f7f7f7f) + 0x7f7f7f7f7f7f7f7f;
+    // Each byte of this number is 128 for a line feed, and 0 for any other byte.
     u64::trailing_zeros(!(some | other) & 0x8080808080808080) as usize / 8
 }
 
-// Where the line that begins at a place may end; no line that is produced has fewer than seven bytes, so they are left out.
+// Where the line that begins at a place may end: at the first line feed behind its first seven bytes, since no line that is produced has fewer.
 fn end_guess(page: &[u8], start: usize) -> usize
     requires { ⌜ start ≤ length (now page) ⌝ }
     ensures { λ r. ⌜ (start ≤ r) × (r ≤ length (now (page .entry))) ⌝ }
 {
     let mut i = start;
+    // Seven bytes, and sixteen in which a line feed is looked for.
     while page.len() - i >= 23 {
         let near = before_feed(page, i + 7);
         let far = before_feed(page, i + 15);
@@ -90,6 +91,7 @@ fn line_at(page: &[u8], start: usize) -> Numbered
 {
     let guess = end_guess(page, start);
     let guessed = number_of_line(&page[start..guess]);
+    // 2 and 3 are the refusals of bytes that are too many, or that the grammar does not produce.
     if guessed > 3 {
         if guess < page.len() {
             if page[guess] == b'\n' {

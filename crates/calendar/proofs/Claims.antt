@@ -20,7 +20,7 @@ use Rattle.calendar.specs.Distance.{distanceOfDays}
 use Rattle.calendar.specs.Range.{between}
 use Rattle.calendar.specs.Refusal.{Holds, Lowest}
 use Rattle.calendar.specs.Span.{firstDay, lastDay, earliest, inSpan, spanTests, dayOrRefusal}
-use Rattle.calendar.specs.Style.{styleNumber, styleOf, styleRefusal, styleOrZero, byNumber}
+use Rattle.calendar.specs.Style.{styleNumber, styleBy, styleOf, styleRefusal, styleOrZero, byNumber}
 use Rattle.calendar.specs.Weekday.{weekday, weekdayOfDay, weekdayRefusal, firstWeekday}
 use Rattle.calendar.specs.Year.{named, daysOfYears, newYear, served}
 use Rattle.calendar.specs.declared.date.DateAnswer.the-variants.{On, NoDate}
@@ -56,6 +56,13 @@ style-numbers k = go _ _ refl refl
     go true b p q = inl (refl, sym (eqb-true k 1 p))
     go false true p q = inl (refl, sym (eqb-true k 2 q))
     go false false p q = inr (refl, λ s e. none s p q e)
+
+-- A style has one truth value by which it is handed on.
+pub one-truth : (a b : Bool) → styleBy a ≡ styleBy b → a ≡ b
+one-truth true true e = refl
+one-truth true false e = absurd (omega (arith, ap styleNumber e))
+one-truth false true e = absurd (omega (arith, ap styleNumber e))
+one-truth false false e = refl
 
 -- "The lowest number that holds is given, and none otherwise": date to day, the weekday and day to date are refused by n exactly when it is that.
 pub date-to-day-refused : (k y m d n : ℕ) → n < earliest

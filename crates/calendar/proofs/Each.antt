@@ -1,7 +1,7 @@
--- A test that antt computes at each number below a bound, and what it says at one of them.
+-- A test that antt computes at each number below a bound, and what it says at one of them; and a number that is none of the first ones.
 use mathlib.Core.Bool.{Bool, true, false, _&&_}
 use mathlib.Core.Path.{_≡_, refl, subst}
-use Prim.Native.Nat.{ℕ, zero, suc, _<_}
+use Prim.Native.Nat.{ℕ, zero, suc, _<_, _≤_}
 use native.Mathlib.Decide.{decLt}
 use native.Mathlib.Omega.{arith}
 use lib.Dec.{T}
@@ -30,3 +30,16 @@ below f (suc n) t k h =
 pub of-both : (f : Bool → ℕ → Bool) (n : ℕ) → T (each (λ k. f true k && f false k) n) → (b : Bool) (k : ℕ) → k < n → T (f b k)
 of-both f n t true k h = T-both (f true k) (f false k) (below (λ k. f true k && f false k) n t k h) .0
 of-both f n t false k h = T-both (f true k) (f false k) (below (λ k. f true k && f false k) n t k h) .1
+
+-- n is none of the numbers from 1 to k, as the last arm of a match has it
+abbrev pub NoneTo : ℕ → ℕ → Type 0
+NoneTo n zero = Unit
+NoneTo n (suc k) = NoneTo n k × (n ≡ suc k → ⊥)
+
+-- so of one number more it is the last
+pub last-left : (n k : ℕ) → (1 ≤ n) × (n ≤ suc k) → NoneTo n k → n ≡ suc k
+last-left n k h none = omega (arith, h, past k none)
+  where
+    past : (j : ℕ) → NoneTo n j → j < n
+    past zero none = h .0
+    past (suc j) none = omega (arith, past j (none .0), none .1)

@@ -27,7 +27,8 @@ use Rattle.dating.specs.declared.line.Ending.the-variants.{At}
 use Rattle.dating.specs.declared.line.Reading.the-variants.{Dated, Refused}
 use Rattle.dating.specs.declared.line.Reading.{Reading}
 
--- what a wrapper adds to a day, as one number: so many days and 8 more; 16 times the turn of a weekday; and 256 for a weekday
+-- what a wrapper does to a day, as one number: the days that it adds, and 8; 16 times what brings a weekday to 0 by sevens; and 256 for a weekday,
+-- for which as many days are taken away as remain of the day and that number by 7
 abbrev pub stepOf : Wrapper → ℕ
 stepOf Eve = 7
 stepOf Morrow = 9
@@ -46,8 +47,8 @@ abbrev pub phrases : Grammar
 phrases = record { Tree = Phrase; Good = GoodPhrase; spell = spellPhrase }
 
 -- the byte is the letter of a style
-abbrev pub isLetter : ℕ → Bool
-isLetter x = eqb x (styleLetter Gregorian) || eqb x (styleLetter Julian)
+abbrev pub isStyleLetter : ℕ → Bool
+isStyleLetter x = eqb x (styleLetter Gregorian) || eqb x (styleLetter Julian)
 
 -- the style whose letter the byte is; J for any other byte
 abbrev pub styleOfLetter : ℕ → Style

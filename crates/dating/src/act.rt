@@ -11,7 +11,7 @@ ghost use Rattle.words.specs.Wrapper.{wrapperOf, GoodWrapper};
 ghost use Rattle.dating.specs.Act.{acted};
 ghost use Rattle.dating.specs.Steps.{stepOf};
 
-// What the wrapper with a number adds to a day, as one number: so many days and 8 more; 16 times the turn of a weekday; and 256 for a weekday.
+// What the wrapper with a number does to a day, as one number: the days that it adds, and 8; 16 times what brings a weekday to 0 by sevens; 256 for a weekday.
 fn step_of(number: u64) -> u64
     requires { ⌜ (1 ≤ number) × (number ≤ 17) ⌝ }
     ensures { λ r. ⌜ r ≡ stepOf (wrapperOf number) ⌝ }

@@ -12,7 +12,7 @@ use words::text::behind_last;
 ghost use mathlib.Core.Path.{_≡_};
 ghost use Rattle.words.specs.Told.{Told};
 ghost use Rattle.dating.specs.Line.{IsDayOfLine, IsNumberOfLine};
-ghost use Rattle.dating.specs.Steps.{isLetter, styleOfLetter, endings, endAt, IsReading};
+ghost use Rattle.dating.specs.Steps.{isStyleLetter, styleOfLetter, endings, endAt, IsReading};
 ghost use Rattle.dating.specs.declared.line.Ending.the-variants.{NoEnding};
 
 // The length of a line's phrase, and the year with its style that stand behind it, or none.
@@ -32,8 +32,8 @@ pub(crate) enum Reading {
 }
 
 // Whether a byte is the letter of a style.
-fn is_letter(byte: u8) -> bool
-    ensures { λ r. ⌜ r ≡ isLetter byte ⌝ }
+fn is_style_letter(byte: u8) -> bool
+    ensures { λ r. ⌜ r ≡ isStyleLetter byte ⌝ }
 {
     match byte {
         b'G' | b'J' => true,
@@ -63,7 +63,7 @@ fn ending_of(line: &[u8]) -> Ending
         return Ending::NoEnding;
     }
     let letter = line[length - 1];
-    if !is_letter(letter) {
+    if !is_style_letter(letter) {
         return Ending::NoEnding;
     }
     let style = style_of_letter(letter);

@@ -15,8 +15,8 @@ ghost use Rattle.words.specs.Told.{Told};
 ghost use Rattle.dating.specs.Phrase.{phraseDay};
 ghost use Rattle.dating.specs.Steps.{phrases};
 
-// The day of a phrase in a year of a style, which comes as a truth value, since the call hands that on in no memory; it calls itself once for each
-// wrapper, so its depth is bounded by the phrase's length.
+// The day of a phrase in a year whose style comes as a truth value, which is handed on in a register and not in memory.
+// It calls itself once for each wrapper, so its depth is bounded by the phrase's length.
 pub(crate) fn phrase_in_year(phrase: &[u8], gregorian: bool, year: u64) -> DayAnswer
     requires { ⌜ length (now phrase) ≤ 120 ⌝ }
     ensures { λ r. ⌜ Told phrases (phraseDay (named (styleBy gregorian) year)) (NoDay Form) (now (phrase .entry)) r ⌝ }

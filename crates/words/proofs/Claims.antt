@@ -10,12 +10,14 @@ use Rattle.words.proofs.Told.{one-told}
 use Rattle.words.proofs.numeral.Laws.{one-numeral, numeral-digits, digits-read, whole}
 use Rattle.words.proofs.text.Laws.{not-later}
 use Rattle.words.proofs.word.Laws as word-laws
+use Rattle.words.proofs.wrapper.Laws as wrapper-laws
 use Rattle.words.proofs.wrapper.Laws.{one-leading, words-some}
 use Rattle.words.specs.Numeral.{numeral, YearDigits, numerals}
 use Rattle.words.specs.Text.{BehindLast}
 use Rattle.words.specs.Told.{Told, produced, unproduced}
 use Rattle.words.specs.Word.{feastWords}
-use Rattle.words.specs.Wrapper.{wrapperWords, GoodWrapper, leadings, lead, leadWords, leadLength}
+use Rattle.words.specs.Wrapper.{wrapperWords, GoodWrapper, leadings, lead, leadWords, leadLength, TellsLead}
+use Rattle.words.specs.declared.wrapper.Found.{Found}
 use Rattle.words.specs.declared.wrapper.Lead.the-variants.{Plain}
 use Rattle.words.specs.declared.wrapper.Lead.{Lead}
 use Rattle.words.specs.declared.wrapper.Wrapper.{Wrapper}
@@ -40,6 +42,10 @@ one-feast s r q h k = one-told word-laws.one-feast r q h k
 -- A phrase begins with the words of at most one wrapper.
 pub one-lead : (s : List ℕ) (r q : Lead) → Told leadings lead Plain s r → Told leadings lead Plain s q → r ≡ q
 one-lead s r q h k = one-told one-leading r q h k
+
+-- So its number and its length are one.
+pub one-found : (s : List ℕ) (r q : Found) → TellsLead s r → TellsLead s q → r ≡ q
+one-found s r q h k = wrapper-laws.one-found s r q h k
 
 -- The words that a phrase is told to begin with stand at its start, and their number of bytes is told.
 pub lead-stands : (s : List ℕ) (r : Lead) → Told leadings lead Plain s r

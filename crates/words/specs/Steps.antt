@@ -9,7 +9,7 @@ use lib.ListN.{length, getD}
 use Rattle.words.specs.Text.{space}
 use Rattle.words.specs.Wrapper.{wrapperWords, wrapperOf}
 
--- a byte's value as a digit; 10 below the digits, and more behind them
+-- a byte's value as a digit; 10 or more where it is none
 abbrev pub digitValue : ℕ → ℕ
 digitValue x = 10 * min 1 (code "0" - x) + (x - code "0")
 
@@ -37,12 +37,14 @@ outerFor spelled k = outerOf (spelled k) (length (spelled k))
 abbrev pub innerFor : (ℕ → List ℕ) → ℕ → ℕ
 innerFor spelled k = innerOf (spelled k) (length (spelled k)) + 1099511627776 * k
 
+-- what a slot holds of the word that has it, of the words of the numbers from 1 to n
 abbrev pub outerIn : (List ℕ → ℕ) → (ℕ → List ℕ) → ℕ → ℕ → ℕ
 outerIn slotOf spelled n i = held (λ k. slotOf (spelled k)) (outerFor spelled) n i
 
 abbrev pub innerIn : (List ℕ → ℕ) → (ℕ → List ℕ) → ℕ → ℕ → ℕ
 innerIn slotOf spelled n i = held (λ k. slotOf (spelled k)) (innerFor spelled) n i
 
+-- the slots, by two bytes and the length, or by three bytes
 abbrev pub feastSlot : List ℕ → ℕ
 feastSlot s = (35 * getD s 0 0 + 10 * getD s 2 0 + 16 * length s) % 128
 
@@ -50,6 +52,7 @@ abbrev pub wrapperSlot : List ℕ → ℕ
 wrapperSlot s = (2 * getD s 0 0 + 4 * getD s 1 0 + getD s 4 0) % 32
 
 -- ---- wrappers
+-- the words of a wrapper by its number
 abbrev pub wordsOf : ℕ → List ℕ
 wordsOf n = wrapperWords (wrapperOf n)
 
@@ -57,11 +60,11 @@ wordsOf n = wrapperWords (wrapperOf n)
 abbrev pub Wordless : List ℕ → Type 0
 Wordless s = (n : ℕ) → 1 ≤ n → n ≤ 17 → (t : List ℕ) → wordsOf n ++ t ≡ s → ⊥
 
--- a test is passed by bytes that are enough for a wrapper's words, and failed by none that begin with such
+-- what a shortcut tells: passed by bytes that are enough for a wrapper's words, and failed by none that begin with such
 abbrev pub MayLead : List ℕ → Bool → Type 0
 MayLead s true = 7 ≤ length s
 MayLead s false = Wordless s
 
--- how many bytes a wrapper's words have, by the fourth and the fifth
+-- how many bytes a wrapper's words have, by the fourth and the fifth of them
 abbrev pub lengthBy : ℕ → ℕ → ℕ
 lengthBy x y = cond (eqb x space) (cond (eqb y (code "o")) 7 (cond (eqb y (code "b")) 11 10)) 10

@@ -1,12 +1,13 @@
 -- Wrappers: their words, and the phrases that begin with them.
 use mathlib.Core.Bool.{cond}
 use mathlib.Core.List.{List, [], _∷_, _++_}
+use mathlib.Core.Path.{_≡_}
 use Prim.Native.Nat.{ℕ, pred, _-_, _≤_}
 use Prim.Native.String.{String}
 use lib.Dec.{eqb, ltb}
 use lib.ListN.{length, getD}
 use Rattle.words.specs.Text.{bytes}
-use Rattle.words.specs.Told.{Grammar}
+use Rattle.words.specs.Told.{Grammar, Told}
 use Rattle.calendar.specs.declared.weekday.Side.the-variants.{After, Before}
 use Rattle.calendar.specs.declared.weekday.Side.{Side}
 use Rattle.words.specs.declared.wrapper.Found.{Found}
@@ -74,3 +75,9 @@ wrapperOf n =
 -- what a wrapper's number and the length of its words say; the number 0 is none's
 abbrev pub leadOf : Found → Lead
 leadOf f = cond (eqb (f .number) 0) Plain (Wrapped (wrapperOf (f .number)) (f .length))
+
+-- r is the number and the length of what stands at the start of s, or 0 and 0
+pub record TellsLead (s : List ℕ) (r : Found) : Type 0 where
+  pub told : Told leadings lead Plain s (leadOf r)
+  pub known : r .number ≤ 17
+  pub none : r .number ≡ 0 → r .length ≡ 0

@@ -47,10 +47,10 @@ fn digit_value(byte: u8) -> u32
     ensures { λ r. ⌜ r ≡ digitValue byte ⌝ }
 {
     let code = byte as u32;
-    if code < 48 {
+    if code < b'0' as u32 {
         return 10;
     }
-    code - 48
+    code - b'0' as u32
 }
 
 // The number of four digits, the first not 0; 0 where the bytes are not such.

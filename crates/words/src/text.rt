@@ -29,8 +29,7 @@ pub(crate) fn four_at(text: &[u8], at: usize) -> u32
     pack4(text[at], text[at + 1], text[at + 2], text[at + 3])
 }
 
-// Whether a word of 4 to 12 bytes stands at the start: its first and its last four bytes are one number, the four in its middle and its
-// length another.
+// Whether the first so many bytes, 4 to 12, are the word with these two numbers: first and last four, and the middle four with their count.
 pub(crate) fn is_word(text: &[u8], count: usize, outer: u64, inner: u64) -> bool
     requires { ⌜ (4 ≤ count) × (count ≤ 12) × (count ≤ length (now text)) ⌝ }
     ensures { λ r. ⌜ r ≡ (eqb (outerOf (now (text .entry)) count) outer && eqb (innerOf (now (text .entry)) count) inner) ⌝ }

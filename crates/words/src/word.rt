@@ -1,4 +1,5 @@
-// The feast words: each has a slot, told by two of its bytes and its length, and is then compared with what the slot holds.
+// The feast words: each has a slot, told by two of its bytes and its length, and is then compared with what the slot holds. A word has 4 to 12 bytes, so
+// that its first four, its last four and the four in its middle cover it; as numbers they have the first byte lowest, and so read backwards.
 use crate::text::is_word;
 ghost use mathlib.Core.Path.{_≡_};
 ghost use Prim.Native.Nat.{_+_, _*_, _%_, _≤_};
@@ -63,7 +64,7 @@ fn outer_in(slot: usize) -> u64
     }
 }
 
-// The four bytes in the middle of the word in a slot, its length and the number of its feast, as one number.
+// The four bytes in the middle of the word in a slot, 2^32 times its length and 2^40 times the number of its feast, as one number; 0 where there is none.
 fn inner_in(slot: usize) -> u64
     ensures { λ r. ⌜ r ≡ innerIn feastSlot feastWord 48 slot ⌝ }
 {
@@ -120,7 +121,7 @@ fn inner_in(slot: usize) -> u64
     }
 }
 
-// The slot of two bytes and a length; no two feast words share one.
+// The slot of two bytes and a length, by factors found by trial, with which no two feast words share one.
 fn slot(first: u8, third: u8, count: usize) -> usize
     requires { ⌜ count ≤ 12 ⌝ }
     ensures { λ r. ⌜ r ≡ (35 * first + 10 * third + 16 * count) % 128 ⌝ }

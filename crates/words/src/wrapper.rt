@@ -1,15 +1,13 @@
-// Wrappers: each has a slot, told by three bytes, and is then compared with what the slot holds.
+// Wrappers: each has a slot, told by three bytes, and is then compared with what the slot holds, as feast words are.
 use crate::text::four_at;
 use crate::text::is_word;
 use calendar::weekday::Side;
 ghost use mathlib.Core.Path.{_≡_};
-ghost use Prim.Native.Nat.{_+_, _*_, _%_, _≤_};
+ghost use Prim.Native.Nat.{_+_, _*_, _%_};
 ghost use Rattle.words.specs.Steps.{outerIn, innerIn, wrapperSlot, wordsOf, lengthBy, MayLead};
-ghost use Rattle.words.specs.Told.{Told};
-ghost use Rattle.words.specs.Wrapper.{leadings, lead, leadOf};
-ghost use Rattle.words.specs.declared.wrapper.Lead.the-variants.{Plain};
+ghost use Rattle.words.specs.Wrapper.{TellsLead};
 
-// What stands before a phrase and moves its day.
+// What stands before a phrase and moves its day, as the definitions have it; the code goes by numbers.
 pub enum Wrapper {
     Eve,
     Morrow,
@@ -18,13 +16,13 @@ pub enum Wrapper {
     First(Side, u64),
 }
 
-// The wrapper at the start of a phrase and the length of its words, or none.
+// The wrapper at the start of a phrase and the length of its words, or none, as the definitions have it.
 pub enum Lead {
     Wrapped(Wrapper, usize),
     Plain,
 }
 
-// The number of a wrapper and the length of its words; 0 and 0 for none.
+// The number of a wrapper, from 1 for the eve to 17 for a Sunday before, and the length of its words; 0 and 0 for none.
 pub struct Found {
     pub number: u64,
     pub length: usize,
@@ -56,7 +54,7 @@ fn outer_in(slot: usize) -> u64
     }
 }
 
-// The four bytes in the middle of the words in a slot, their length and the number of the wrapper, as one number.
+// The four bytes in the middle of the words in a slot, 2^32 times their length and 2^40 times the wrapper's number, as one number; 0 where there are none.
 fn inner_in(slot: usize) -> u64
     ensures { λ r. ⌜ r ≡ innerIn wrapperSlot wordsOf 17 slot ⌝ }
 {
@@ -82,23 +80,23 @@ fn inner_in(slot: usize) -> u64
     }
 }
 
-// The slot of three bytes; no two wrappers share one.
+// The slot of three bytes, by factors found by trial, with which no two wrappers share one.
 fn slot(first: u8, second: u8, fifth: u8) -> usize
     ensures { λ r. ⌜ r ≡ (2 * first + 4 * second + fifth) % 32 ⌝ }
 {
     (2 * first as usize + 4 * second as usize + fifth as usize) % 32
 }
 
-// How many bytes a wrapper's words have, by two of them, so that what stands behind them need not wait for the slot.
+// How many bytes a wrapper's words have, by two of them, so that the reading of what stands behind them need not wait for a table.
 fn length_by(fourth: u8, fifth: u8) -> usize
     ensures { λ r. ⌜ r ≡ lengthBy fourth fifth ⌝ }
 {
-    let behind_weekday = if fifth == b'b' { 11 } else { 10 };
-    let behind_space = if fifth == b'o' { 7 } else { behind_weekday };
-    if fourth == b' ' { behind_space } else { 10 }
+    let weekday_length = if fifth == b'b' { 11 } else { 10 };
+    let spaced_length = if fifth == b'o' { 7 } else { weekday_length };
+    if fourth == b' ' { spaced_length } else { 10 }
 }
 
-// Whether a wrapper may begin a phrase, which then has at least seven bytes; a short phrase is told by its first four.
+// Whether a wrapper may begin a phrase: a shortcut for phrases as short as a feast word, which have at most 12 bytes.
 fn may_lead(phrase: &[u8]) -> bool
     ensures { λ r. ⌜ MayLead (now (phrase .entry)) r ⌝ }
 {
@@ -109,6 +107,7 @@ fn may_lead(phrase: &[u8]) -> bool
         return false;
     }
     if phrase[3] != b' ' {
+        // morr, and octa
         if four_at(phrase, 0) != 0x72726f6d {
             if four_at(phrase, 0) != 0x6174636f {
                 return false;
@@ -120,8 +119,7 @@ fn may_lead(phrase: &[u8]) -> bool
 
 // The wrapper that a phrase begins with.
 pub fn lead_of(phrase: &[u8]) -> Found
-    ensures { λ r. ⌜ Told leadings lead Plain (now (phrase .entry)) (leadOf r) ⌝ }
-    ensures { λ r. ⌜ r .number ≤ 17 ⌝ }
+    ensures { λ r. ⌜ TellsLead (now (phrase .entry)) r ⌝ }
 {
     if !may_lead(phrase) {
         return Found {

@@ -1,13 +1,11 @@
 -- The texts that tell readings of a line.
-use mathlib.Core.Bool.{true, false}
+use mathlib.Core.Bool.{true}
 use mathlib.Core.List.{List, [], _∷_, _++_}
-use mathlib.Core.Logic.{_⊎_, inl, inr}
 use mathlib.Core.Path.{_≡_, refl, sym, _∙_, ap}
 use Prim.Native.Nat.{ℕ, _+_, _-_, _*_, _<_, _≤_}
 use native.Mathlib.Omega.{arith}
-use lib.Dec.{leb}
 use lib.ListN.{length, set, length-append}
-use borrow.Author.Tests.{le-leb, lt-leb}
+use borrow.Author.Tests.{le-leb}
 use Rattle.calendar.proofs.date.Laws.{dated as span-of}
 use Rattle.calendar.proofs.refusal.Laws.{refusal-digit, no-day}
 use Rattle.calendar.proofs.span.Laws.{span-small}
@@ -28,7 +26,7 @@ use Rattle.calendar.specs.declared.span.DayAnswer.the-variants.{Day, NoDay}
 use Rattle.calendar.specs.declared.style.Style.{Style}
 
 -- ---- texts
-pub digit-field : (n c : ℕ) → n ≤ 9 → length (field n c) ≡ 2
+digit-field : (n c : ℕ) → n ≤ 9 → length (field n c) ≡ 2
 digit-field n c h = field-length n c ∙ rw (one-digit n h)
 
 pub refused-length : (x : Refusal) → length (refusedText x) ≡ 2
@@ -65,17 +63,10 @@ module _ (s : Style) (n : ℕ) {before c d : List ℕ} {i j k : ℕ} (p : Put be
       let same = put-length (q .1 .1) ∙ put-length p in
       omega (arith, p .behind, q .1 .1 .behind)
 
--- ---- room at a place, and the answer put where there is room for the longest
-pub room : (i k n : ℕ) → k ≤ n → i ≤ n - k → leb (i + k) n ≡ true
-room i k n h j = le-leb (i + k) n (omega arith)
-
-pub no-room : (i k n : ℕ) → n < k ⊎ n - k < i → leb (i + k) n ≡ false
-no-room i k n (inl h) = lt-leb (i + k) n (omega arith)
-no-room i k n (inr h) = lt-leb (i + k) n (omega arith)
-
+-- ---- the answer put where there is room for the longest
 pub answered : (s : List ℕ) (i : ℕ) (before : List ℕ) {after : List ℕ} {r : ℕ} (t : List ℕ)
-    → leb (i + 25) (length before) ≡ true → IsAnswer s t → Put before i t after r → PutsAnswer s i before after (r - i)
-answered s i before t fits answer p = rw fits (t, (answer, (omega (arith, p .behind), p .bytes)))
+    → i + 25 ≤ length before → IsAnswer s t → Put before i t after r → PutsAnswer s i before after (r - i)
+answered s i before t room answer p = rw (le-leb (i + 25) (length before) room) (t, (answer, (omega (arith, p .behind), p .bytes)))
 
 -- the answer that tells the day of a line
 pub dated-answer : (s t : List ℕ) (y : Style) (n k : ℕ) → ReadFrom s y n k → DatedText y n t → IsAnswer s t

@@ -26,7 +26,7 @@ use Rattle.words.specs.Told.{Told, produced, unproduced}
 use Rattle.words.specs.Wrapper.{wrapperWords}
 use Rattle.dating.specs.Line.{Line, ending, GoodYear, spellLine, GoodLine, lineDay, LineTold, unfit, fit, lengthFits, IsDayOfLine}
 use Rattle.dating.specs.Phrase.{Phrase, plain, wrapped, spellPhrase, GoodPhrase, phraseDay}
-use Rattle.dating.specs.Steps.{phrases, isLetter, styleOfLetter, Ended, endings, endAt, ReadFrom}
+use Rattle.dating.specs.Steps.{phrases, isStyleLetter, styleOfLetter, Ended, endings, endAt, ReadFrom}
 use Rattle.calendar.specs.declared.refusal.Refusal.the-variants.{Length, Form}
 use Rattle.calendar.specs.declared.refusal.Refusal.{Refusal}
 use Rattle.calendar.specs.declared.span.DayAnswer.the-variants.{Day, NoDay}
@@ -38,11 +38,11 @@ use Rattle.dating.specs.declared.line.Ending.the-variants.{At, NoEnding}
 use Rattle.dating.specs.declared.line.Ending.{Ending}
 
 -- ---- style letters
-its-letter : (s : Style) → (isLetter (styleLetter s) ≡ true) × (styleOfLetter (styleLetter s) ≡ s)
+its-letter : (s : Style) → (isStyleLetter (styleLetter s) ≡ true) × (styleOfLetter (styleLetter s) ≡ s)
 its-letter Julian = (refl, refl)
 its-letter Gregorian = (refl, refl)
 
-letter-of : (x : ℕ) → isLetter x ≡ true → styleLetter (styleOfLetter x) ≡ x
+letter-of : (x : ℕ) → isStyleLetter x ≡ true → styleLetter (styleOfLetter x) ≡ x
 letter-of x h =
     elim (either (eqb x (styleLetter Gregorian))) [
       | inl g ↦ rw g (sym (eqb-true x (styleLetter Gregorian) g))
@@ -93,18 +93,12 @@ one-ending a b t u g h e =
     (inner .0, λ i. record { style = style i; year = year i })
 
 module _ (s : List ℕ) where
-  abbrev Unended : Type 0
-  Unended = (x : Ended) → GoodYear (x .named) → x .front ++ ending (x .named) ≡ s → ⊥
-
   abbrev pub TellsEnding : Ending → Type 0
   TellsEnding r = Told endings endAt NoEnding s r
 
   -- the byte that is the k-th from the end
   abbrev fromEnd : ℕ → ℕ
   fromEnd k = getD s (length s - k) 0
-
-  unended : Unended → TellsEnding NoEnding
-  unended none = unproduced none refl
 
   -- the last two bytes of a line, and those before them
   ended : (x : Ended) → x .front ++ ending (x .named) ≡ s
@@ -125,13 +119,13 @@ module _ (s : List ℕ) where
       )
 
   pub too-short : length s < 2 → TellsEnding NoEnding
-  too-short h = unended (λ x g e. let b = ended x e in omega arith)
+  too-short h = unproduced (λ x g e. let b = ended x e in omega arith) refl
 
   pub no-last-space : (fromEnd 2 ≡ space → ⊥) → TellsEnding NoEnding
-  no-last-space n = unended (λ x g e. n (ended x e .1 .1 .0))
+  no-last-space n = unproduced (λ x g e. n (ended x e .1 .1 .0)) refl
 
-  pub no-style : isLetter (fromEnd 1) ≡ false → TellsEnding NoEnding
-  no-style h = unended (λ x g e. no-false (sym (rw (ended x e .1 .1 .1) (its-letter (x .named .style) .0)) ∙ h))
+  pub no-style : isStyleLetter (fromEnd 1) ≡ false → TellsEnding NoEnding
+  no-style h = unproduced (λ x g e. no-false (sym (rw (ended x e .1 .1 .1) (its-letter (x .named .style) .0)) ∙ h)) refl
 
   module _ (i : ℕ) (b : BehindLast space (take (length s - 2) s) i) where
     year-cut : (x : Ended) → GoodYear (x .named) → x .front ++ ending (x .named) ≡ s
@@ -140,13 +134,13 @@ module _ (s : List ℕ) where
         known-cut space (take (length s - 2) s) i b (x .front) (numeral (x .named .year)) (year-lacks-space (x .named) g) (ended x e .1 .0)
 
     pub no-year-space : i ≡ 0 → TellsEnding NoEnding
-    no-year-space z = unended (λ x g e. let k = year-cut x g e in omega arith)
+    no-year-space z = unproduced (λ x g e. let k = year-cut x g e in omega arith) refl
 
     module _ (y : ℕ) (told : Told (numerals 9999) (λ n. n) 0 (drop i (take (length s - 2) s)) y) where
       pub no-year : y ≡ 0 → TellsEnding NoEnding
-      no-year z = unended (λ x g e. number-untold y told z (x .named .year) (g .0) (g .1) (year-cut x g e .2))
+      no-year z = unproduced (λ x g e. number-untold y told z (x .named .year) (g .0) (g .1) (year-cut x g e .2)) refl
 
-      pub ending-told : 2 ≤ length s → fromEnd 2 ≡ space → isLetter (fromEnd 1) ≡ true → 0 < i → 0 < y
+      pub ending-told : 2 ≤ length s → fromEnd 2 ≡ space → isStyleLetter (fromEnd 1) ≡ true → 0 < i → 0 < y
           → TellsEnding (At (i - 1) (named (styleOfLetter (fromEnd 1)) y))
       unfolding lastOf
       ending-told long byte letter low some =
@@ -163,7 +157,7 @@ module _ (s : List ℕ) where
 
   -- a year of four digits, which stands at a known place
   pub four-told : (y : ℕ) → Told (numerals 9999) (λ n. n) 0 (fromEnd 6 ∷ fromEnd 5 ∷ fromEnd 4 ∷ fromEnd 3 ∷ []) y → 0 < y
-      → 7 ≤ length s → fromEnd 7 ≡ space → fromEnd 2 ≡ space → isLetter (fromEnd 1) ≡ true
+      → 7 ≤ length s → fromEnd 7 ≡ space → fromEnd 2 ≡ space → isStyleLetter (fromEnd 1) ≡ true
       → TellsEnding (At (length s - 7) (named (styleOfLetter (fromEnd 1)) y))
   unfolding lastOf
   four-told y told some long first last letter =
@@ -234,32 +228,29 @@ module _ (s : List ℕ) (some : length s ≡ 0 → ⊥) (few : length s ≤ 120)
   no-ending r (unproduced none m) z =
       fit length-fits (unproduced (λ l g e. none (record { front = spellPhrase (l .phrase); named = l .named }) (g .year) e) refl)
 
-module _ (s : List ℕ) (k : ℕ) (t : NamedYear) (ends : TellsEnding s (At k t)) where
-  abbrev Ending-of : Type 0
-  Ending-of = (k ≤ length s) × (GoodYear t × (take k s ++ ending t ≡ s))
+pub ending-of : (s : List ℕ) (k : ℕ) (t : NamedYear) → TellsEnding s (At k t) → (k ≤ length s) × (GoodYear t × (take k s ++ ending t ≡ s))
+ending-of s k t (unproduced none m) = no-false cc
+ending-of s k t (produced x g e m) =
+    let same : t ≡ x .named = cc in
+    let count : k ≡ length (x .front) = cc in
+    let long = sym (ap length e) ∙ length-append (x .front) (ending (x .named)) in
+    let front : take k s ≡ x .front = rw (count, ← e) (take-append-seam (x .front) (ending (x .named))) in
+    (omega arith, (rw same g, rw (same, front) e))
 
-  pub ending-of : Ending-of
-  ending-of = go ends
-    where
-      go : TellsEnding s (At k t) → Ending-of
-      go (unproduced none m) = no-false cc
-      go (produced x g e m) =
-          let same : t ≡ x .named = cc in
-          let count : k ≡ length (x .front) = cc in
-          let long = sym (ap length e) ∙ length-append (x .front) (ending (x .named)) in
-          let front : take k s ≡ x .front = rw (count, ← e) (take-append-seam (x .front) (ending (x .named))) in
-          (omega arith, (rw same g, rw (same, front) e))
+module _ (s : List ℕ) (k : ℕ) (t : NamedYear) (ends : TellsEnding s (At k t)) where
+  abbrev its-end : (k ≤ length s) × (GoodYear t × (take k s ++ ending t ≡ s))
+  its-end = ending-of s k t ends
 
   pub size : length (take k s) ≡ k
-  size = length-take-le k s (ending-of .0)
+  size = length-take-le k s (its-end .0)
 
   pub line-told : lengthFits s ≡ true → (r : DayAnswer) → Told phrases (phraseDay t) (NoDay Form) (take k s) r → IsDayOfLine s r
   unfolding spellLine lineDay
   line-told fits r (produced p g e m) =
-      fit fits (produced (record { phrase = p; named = t }) (record { phrase = g; year = ending-of .1 .0 }) (rw e (ending-of .1 .1)) m)
+      fit fits (produced (record { phrase = p; named = t }) (record { phrase = g; year = its-end .1 .0 }) (rw e (its-end .1 .1)) m)
   line-told fits r (unproduced none m) =
       fit fits (unproduced (λ l g e.
-      let same = one-ending (spellPhrase (l .phrase)) (take k s) (l .named) t (g .year) (ending-of .1 .0) (e ∙ sym (ending-of .1 .1)) in
+      let same = one-ending (spellPhrase (l .phrase)) (take k s) (l .named) t (g .year) (its-end .1 .0) (e ∙ sym (its-end .1 .1)) in
       none (l .phrase) (g .phrase) (same .0)) m)
 
 -- ---- what a reading says

@@ -130,21 +130,18 @@ module _ (s : List ℕ) where
   part-stands p (fit h (produced l g e m)) = rw m (accepted-stands (lineDay l) l e)
   part-stands p (fit h (unproduced none m)) = rw m (omega arith, refl)
 
--- the slice between a part's places is the part
-module _ (s : List ℕ) where
+  -- the slice between a part's places is the part
   part-bytes : (p : Part) → IsPart s p → take (placeOf p .end - placeOf p .start) (drop (placeOf p .start) s) ≡ p .text
   part-bytes p h =
       let count : p .start + length (p .text) - p .start ≡ length (p .text) = omega arith in
-      rw count (part-stands s p h .1)
+      rw count (part-stands p h .1)
 
   module _ (r : Place) (h : IsPlace s r) where
     pub ordered : r .start ≤ r .end
-    ordered = rw (its-part s r h .2) (omega arith)
+    ordered = rw (its-part r h .2) (omega arith)
 
     pub inside : r .end ≤ length s
-    inside =
-        let p = its-part s r h in
-        rw (p .2) (part-stands s (p .0) (p .1) .0)
+    inside = let p = its-part r h in rw (p .2) (part-stands (p .0) (p .1) .0)
 
 -- so a slice that lies there is the part
 pub lies-there : (x r : RefT (List ℕ)) (q : Place) → IsPlace (now x) q → now r ≡ take (q .end - q .start) (drop (q .start) (now x))

@@ -89,37 +89,32 @@ module _ (s : List ℕ) (t : NamedYear) where
       neither (plain a) g e = n a g e
       neither (wrapped w p) g e = none (record { wrapper = w; rest = spellPhrase p }) (g .0) e
 
+pub leads : (s : List ℕ) (w : Wrapper) (n : ℕ) → Told leadings lead Plain s (Wrapped w n)
+    → (n ≡ length (wrapperWords w)) × GoodWrapper w × (wrapperWords w ++ drop n s ≡ s)
+leads s w n (unproduced none m) = no-false cc
+leads s w n (produced x g e m) =
+    let v : w ≡ x .wrapper = cc in
+    let l : n ≡ length (wrapperWords (x .wrapper)) = cc in
+    let d : drop n s ≡ x .rest = rw (l, ← e) (drop-append-seam (wrapperWords (x .wrapper)) (x .rest)) in
+    (rw v l, rw v g, rw (v, d) e)
+
 module _ (s : List ℕ) (w : Wrapper) (n : ℕ) (begins : Told leadings lead Plain s (Wrapped w n)) where
-  abbrev Leads : Type 0
-  Leads = (n ≡ length (wrapperWords w)) × GoodWrapper w × (wrapperWords w ++ drop n s ≡ s)
-
-  pub leads : Leads
-  leads = go begins
-    where
-      go : Told leadings lead Plain s (Wrapped w n) → Leads
-      go (unproduced none m) = no-false cc
-      go (produced x g e m) =
-          let v : w ≡ x .wrapper = cc in
-          let l : n ≡ length (wrapperWords (x .wrapper)) = cc in
-          let d : drop n s ≡ x .rest = rw (l, ← e) (drop-append-seam (wrapperWords (x .wrapper)) (x .rest)) in
-          (l ∙ ap (λ (y : Wrapper). length (wrapperWords y)) (sym v), rw v g, rw (v, d) e)
-
   pub shorter : (1 ≤ n) × (n ≤ length s)
   shorter =
       let x = spaced w in
       let long = ap length (x .1) ∙ length-append (x .0) (space ∷ []) in
-      let whole = sym (ap length (leads .2)) ∙ length-append (wrapperWords w) (drop n s) in
-      let count = leads .0 in
+      let whole = sym (ap length (leads s w n begins .2)) ∙ length-append (wrapperWords w) (drop n s) in
+      let count = leads s w n begins .0 in
       (omega arith, omega arith)
 
   pub wrapped-told : (t : NamedYear) (r : DayAnswer) → Told phrases (phraseDay t) (NoDay Form) (drop n s) r
       → Told phrases (phraseDay t) (NoDay Form) s (acted (t .style) w r)
   unfolding spellPhrase GoodPhrase
   wrapped-told t r (produced p g e m) =
-      produced (wrapped w p) (leads .1, g) (rw e (leads .2)) (ap (acted (t .style) w) m ∙ sym (wrapper-acts t w p))
+      produced (wrapped w p) (leads s w n begins .1, g) (rw e (leads s w n begins .2)) (ap (acted (t .style) w) m ∙ sym (wrapper-acts t w p))
   wrapped-told t r (unproduced none m) = unproduced (λ p g e. neither p g e) (rw m)
     where
       neither : (p : Phrase) → GoodPhrase p → spellPhrase p ≡ s → ⊥
-      neither (plain a) g e = no-anchor a w (drop n s) g (e ∙ sym (leads .2))
+      neither (plain a) g e = no-anchor a w (drop n s) g (e ∙ sym (leads s w n begins .2))
       neither (wrapped v p) g e =
-          none p (g .1) (one-wrapper v w (spellPhrase p) (drop n s) (g .0) (leads .1) (e ∙ sym (leads .2)) .1)
+          none p (g .1) (one-wrapper v w (spellPhrase p) (drop n s) (g .0) (leads s w n begins .1) (e ∙ sym (leads s w n begins .2)) .1)

@@ -4,23 +4,26 @@ use mathlib.Core.List.{List, [], _∷_, _++_, append-assoc}
 use mathlib.Core.Path.{_≡_, refl, sym, _∙_, ap, ap₂}
 use Prim.Native.Char.{code}
 use Prim.Native.Nat.{ℕ, suc, _+_, _-_, _/_, _%_, _<_, _≤_}
+use native.Mathlib.Decide.{decLt}
 use native.Mathlib.Omega.{arith}
 use lib.Dec.{T, eqb, leb, ltb}
 use lib.ListN.{length, drop, getD, length-append, List·getD-append}
 use lib.Seq.{drop-append-seam}
-use borrow.Author.Tests.{eqb-true, ne-eqb, leb-true, ltb-true, ltb-false, lt-ltb, le-ltb}
+use borrow.Author.Tests.{eqb-true, eq-eqb, ne-eqb, leb-true, ltb-true, ltb-false, lt-ltb, le-ltb}
 use Rattle.calendar.proofs.Each.{each}
 use Rattle.words.proofs.Slots.{Bytes, four-append, Others, no-slot, worded, one-slot, is-it, not-it}
 use Rattle.words.proofs.Tests.{every, tested}
-use Rattle.words.proofs.Told.{OneReading}
+use Rattle.words.proofs.Told.{OneReading, one-told}
 use Rattle.words.proofs.text.Laws.{no-false, within}
 use Rattle.calendar.specs.Range.{between}
 use Rattle.words.specs.Steps.{four, outerOf, innerOf, held, outerIn, innerIn, wrapperSlot, wordsOf, Wordless, MayLead, lengthBy}
 use Rattle.words.specs.Text.{bytes, space, has}
-use Rattle.words.specs.Told.{Told, produced, unproduced}
-use Rattle.words.specs.Wrapper.{weekdayWord, wrapperWords, GoodWrapper, leadings, lead, wrapperOf, leadOf}
+use Rattle.words.specs.Told.{produced, unproduced}
+use Rattle.words.specs.Wrapper.{weekdayWord, wrapperWords, GoodWrapper, Leading, leadings, lead, leadLength, wrapperOf, leadOf, TellsLead}
 use Rattle.calendar.specs.declared.weekday.Side.the-variants.{After, Before}
+use Rattle.words.specs.declared.wrapper.Found.{Found}
 use Rattle.words.specs.declared.wrapper.Lead.the-variants.{Wrapped, Plain}
+use Rattle.words.specs.declared.wrapper.Lead.{Lead}
 use Rattle.words.specs.declared.wrapper.Wrapper.the-variants.{Eve, Morrow, Octave, First}
 use Rattle.words.specs.declared.wrapper.Wrapper.{Wrapper}
 
@@ -137,30 +140,34 @@ module _ (s : List ℕ) {k : ℕ} (count : k ≡ lengthBy (getD s 3 0) (getD s 4
       go false b c e = omega arith
 
 -- ---- what a phrase begins with
-pub plain : {s : List ℕ} → Wordless s → Told leadings lead Plain s Plain
-plain none =
-    unproduced (λ x good e.
-    let n = numbered (x .wrapper) good in
-    none (numberOf (x .wrapper)) (n .0 .0) (n .0 .1) (x .rest) (rw (n .1) e)) refl
+pub plain : {s : List ℕ} → Wordless s → TellsLead s (record { number = 0; length = 0 })
+plain none = record {
+  told = unproduced (λ x good e.
+      let n = numbered (x .wrapper) good in
+      none (numberOf (x .wrapper)) (n .0 .0) (n .0 .1) (x .rest) (rw (n .1) e)) refl;
+  known = omega arith;
+  none = λ z. refl;
+}
 
 module _ (s : List ℕ) (bytes : Bytes s) {k o m : ℕ} (count : k ≡ lengthBy (getD s 3 0) (getD s 4 0)) (fits : k ≤ length s)
     (ho : o ≡ outerIn wrapperSlot wordsOf 17 (wrapperSlot s)) (hm : m ≡ innerIn wrapperSlot wordsOf 17 (wrapperSlot s))
     {r : Bool} (test : r ≡ (eqb (outerOf s k) o && eqb (innerOf s k) (m % 1099511627776))) where
-  pub no-words : not r ≡ true → Told leadings lead Plain s Plain × (0 ≤ 17)
-  no-words p = (
-    plain (λ n low high t e.
-        not-it wrapperSlot wordsOf 17 32 all-worded bytes (wrapperSlot s) (inside s count fits) ho hm test p n (low, high)
-        (same-slot n (low, high) t e) (count ∙ its-length n (low, high) t e) t e),
-    omega arith,
-  )
+  pub no-words : not r ≡ true → TellsLead s (record { number = 0; length = 0 })
+  no-words p =
+      plain (λ n low high t e.
+      not-it wrapperSlot wordsOf 17 32 all-worded bytes (wrapperSlot s) (inside s count fits) ho hm test p n (low, high)
+      (same-slot n (low, high) t e) (count ∙ its-length n (low, high) t e) t e)
 
-  pub these-words : not r ≡ false
-      → Told leadings lead Plain s (leadOf (record { number = m / 1099511627776; length = k })) × (m / 1099511627776 ≤ 17)
+  pub these-words : not r ≡ false → TellsLead s (record { number = m / 1099511627776; length = k })
   these-words p =
       let q = m / 1099511627776 in
       let h = is-it wrapperSlot wordsOf 17 32 all-worded bytes (wrapperSlot s) (inside s count fits) ho hm test p in
-      let some = ne-eqb q 0 (omega (arith, h .0)) in
-      (rw some (produced (record { wrapper = wrapperOf q; rest = drop k s }) (good-number q (h .0 .1)) (h .2) (ap (Wrapped (wrapperOf q)) (h .1))), h .0 .1)
+      let tree : Leading = record { wrapper = wrapperOf q; rest = drop k s } in
+      record {
+        told = rw (ne-eqb q 0 (omega (arith, h .0))) (produced tree (good-number q (h .0 .1)) (h .2) (ap (Wrapped (wrapperOf q)) (h .1)));
+        known = h .0 .1;
+        none = λ z. absurd (omega (arith, h .0));
+      }
 
 -- no wrapper's words begin another's, so what stands behind them is told too
 pub one-wrapper : (v w : Wrapper) (a b : List ℕ) → GoodWrapper v → GoodWrapper w
@@ -190,3 +197,32 @@ pub one-leading : OneReading leadings
 one-leading x y g h e =
     let same = one-wrapper (x .wrapper) (y .wrapper) (x .rest) (y .rest) g h e in
     ap₂ (λ (w : Wrapper) (t : List ℕ). record { wrapper = w; rest = t }) (same .0) (same .1)
+
+-- ---- a lead by its numbers
+leadNumber : Lead → ℕ
+leadNumber (Wrapped w n) = numberOf w
+leadNumber Plain = 0
+
+back : ℕ → List Bool
+back n = eqb (numberOf (wrapperOf n)) n ∷ []
+
+its-numbers : {s : List ℕ} (f : Found) → TellsLead s f → (f .number ≡ leadNumber (leadOf f)) × (f .length ≡ leadLength (leadOf f))
+unfolding leadNumber back numberOf
+its-numbers f h =
+    elim (decLt 0 (f .number)) [
+      | yes some ↦
+          let again = eqb-true (numberOf (wrapperOf (f .number))) (f .number) (tested back 17 tt (f .number) some (h .known) 0) in
+          rw (ne-eqb (f .number) 0 (omega arith)) (sym again, refl)
+      | no none ↦
+          let zero : f .number ≡ 0 = omega arith in
+          rw (eq-eqb (f .number) 0 zero) (zero, h .none zero)
+    ]
+
+pub one-found : (s : List ℕ) (r q : Found) → TellsLead s r → TellsLead s q → r ≡ q
+one-found s r q h k =
+    let same = one-told one-leading (leadOf r) (leadOf q) (h .told) (k .told) in
+    let hr = its-numbers r h in
+    let hq = its-numbers q k in
+    let number = hr .0 ∙ ap leadNumber same ∙ sym (hq .0) in
+    let length = hr .1 ∙ ap leadLength same ∙ sym (hq .1) in
+    λ i. record { number = number i; length = length i }

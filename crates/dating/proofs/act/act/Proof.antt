@@ -43,26 +43,12 @@ its-step c =
     let day = span-small _ _ (c .before .pre .1 .1) in
     rw (c .step-of .ensures) (stepped (wrapperOf (c .before .args .number)) _ (c .before .pre .1 .0) (omega arith))
 
-mul-back : tie.Need-mul-back
-mul-back c = omega (arith, its-step c .0)
-
-sub-day-within : tie.Need-sub-day-within
-sub-day-within c = omega (arith, span-small _ _ (c .before .pre .1 .1))
-
-sub-day-within-2 : tie.Need-sub-day-within-2
-sub-day-within-2 c = omega (arith, its-step c .0, span-small _ _ (c .before .pre .1 .1))
-
-returns : tie.Need-returns
-returns c = c .day-within .ensures ∙ ap (within (c .before .before .args .style)) (sym (its-step (c .before) .1))
-
 pub act-spec : {M : Type 1} → statement M
 act-spec =
     tie.close
     (tie.spec
     (λ c κs. search needs) (λ c. search needs)
-    mul-back
-    (λ c. search needs)
-    sub-day-within
-    sub-day-within-2
-    (λ c κs. search needs)
-    returns)
+    (λ c. omega (arith, its-step c .0)) (λ c. search needs)
+    (λ c. omega (arith, span-small _ _ (c .before .pre .1 .1)))
+    (λ c. omega (arith, its-step c .0, span-small _ _ (c .before .pre .1 .1))) (λ c κs. search needs)
+    (λ c. c .day-within .ensures ∙ ap (within (c .before .before .args .style)) (sym (its-step (c .before) .1))))

@@ -1,26 +1,14 @@
-use mathlib.Core.Bool.{true}
-use mathlib.Core.Logic.{inl, inr}
-use mathlib.Core.Path.{_≡_, refl}
+use mathlib.Core.Path.{refl}
 use Prim.Native.Nat.{_+_}
 use native.Mathlib.Omega.{arith}
-use lib.Dec.{leb}
 use lib.ListN.{length}
 use borrow.Author.Needs.{needs}
-use Rattle.dating.proofs.answer.Laws.{room, no-room, answered, dated-answer}
+use borrow.Author.Tests.{lt-leb}
+use Rattle.dating.proofs.answer.Laws.{answered, dated-answer}
 use Rattle.dating.proofs.line.Laws.{read-in-span}
 use Rattle.dating.specs.Answer.{refused}
 use Rattle.dating.proofs.answer.put_answer.Statement.{statement}
 use Rattle.dating.proofs.answer.put_answer.Tie as tie
-
-returns : tie.Need-returns
-returns c =
-    let a = c .before .before .before .args in
-    rw (no-room (a .at) 25 (length (a .buffer .now)) (inl (c .if1 .taken))) (refl, refl)
-
-returns-2 : tie.Need-returns-2
-returns-2 c =
-    let a = c .before .before .before .before .args in
-    rw (no-room (a .at) 25 (length (a .buffer .now)) (inr (c .if2 .taken))) (refl, refl)
 
 put-dated-requires : tie.Need-put-dated-requires
 put-dated-requires c κs =
@@ -29,39 +17,32 @@ put-dated-requires c κs =
       read-in-span _ _ _ _ (rw (c .before .before .style .given .1) at (k .reading-of-line .ensures)),
     )
 
--- the buffer has room for the longest answer
-fits : (c : tie.After-reading-of-line)
-    → let a = c .before .before .before .before .before .args in
-    leb (a .at + 25) (length (a .buffer .now)) ≡ true
-fits c =
-    let a = c .before .before .before .before .before .args in
-    room (a .at) 25 (length (a .buffer .now)) (c .before .before .if1 .left) (c .before .if2 .left)
-
 returns-3 : tie.Need-returns-3
 returns-3 c =
     let k = c .before .before .before .before .before .before .before in
     let a = k .before .before .before .before .before .args in
     let p = c .before .before .put-dated .ensures in
     let told = rw (c .before .before .before .before .before .style .given .1) at (k .reading-of-line .ensures) in
-    answered (a .line .now) (a .at) (a .buffer .now) (p .0) (fits k) (dated-answer (a .line .now) (p .0) _ _ _ told (p .1 .0)) (p .1 .1)
+    answered (a .line .now) (a .at) (a .buffer .now) (p .0) (omega (arith, k .before .before .if1 .left, k .before .if2 .left))
+    (dated-answer (a .line .now) (p .0) _ _ _ told (p .1 .0)) (p .1 .1)
 
 returns-4 : tie.Need-returns-4
 returns-4 c =
     let k = c .before .before .before .before .before .before .before in
     let a = k .before .before .before .before .before .args in
     let told = rw (c .before .before .before .before .before .refusal .given .1) at (k .reading-of-line .ensures) in
-    answered (a .line .now) (a .at) (a .buffer .now) _ (fits k) (refused _ told refl) (c .before .before .put-refused .ensures)
+    answered (a .line .now) (a .at) (a .buffer .now) _ (omega (arith, k .before .before .if1 .left, k .before .if2 .left))
+    (refused _ told refl) (c .before .before .put-refused .ensures)
 
 pub put-answer-spec : {M : Type 1} → statement M
 put-answer-spec =
     tie.close
     (tie.spec
-    returns
+    (λ c. let a = c .before .before .before .args in rw (lt-leb (a .at + 25) (length (a .buffer .now)) (omega (arith, c .if1 .taken))) (refl, refl))
     (λ c. search needs)
-    returns-2
+    (λ c. let a = c .before .before .before .before .args in rw (lt-leb (a .at + 25) (length (a .buffer .now)) (omega (arith, c .if2 .taken))) (refl, refl))
     (λ c κs. search needs) (λ c. search needs) (λ c. search needs)
     put-dated-requires
     (λ c. search needs) (λ c. search needs) (λ c κs. search needs) (λ c. search needs) (λ c. search needs)
-    returns-3
-    (λ c. search needs)
+    returns-3 (λ c. search needs)
     returns-4)

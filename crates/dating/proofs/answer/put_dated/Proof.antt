@@ -1,11 +1,9 @@
 use native.Mathlib.Omega.{arith}
+use borrow.Author.Needs.{needs}
 use Rattle.dating.proofs.answer.Laws.{fields-length, dated-put, feed-room}
 use Rattle.dating.proofs.writer.Laws.{put-length}
 use Rattle.dating.proofs.answer.put_dated.Statement.{statement}
 use Rattle.dating.proofs.answer.put_dated.Tie as tie
-
-put-fields-requires : tie.Need-put-fields-requires
-put-fields-requires c κs = (omega (arith, c .before .before .pre .0), c .before .before .pre .1)
 
 put-day-requires : tie.Need-put-day-requires
 put-day-requires c κs =
@@ -21,17 +19,13 @@ slice-write-buffer c =
     let start = fields .before .before .before in
     feed-room _ _ (fields .put-fields .ensures) (day .put-day .ensures) (start .pre .1) (start .pre .0)
 
-add-result : tie.Need-add-result
-add-result c = omega (arith, slice-write-buffer c)
-
 returns : tie.Need-returns
 returns c =
     let day = c .before .before in
     dated-put _ _ (day .before .before .before .before .put-fields .ensures) (day .put-day .ensures)
 
-same-length : tie.Need-same-length
-same-length c = put-length (returns c .1 .1)
-
 pub put-dated-spec : {M : Type 1} → statement M
 put-dated-spec =
-    tie.close (tie.spec put-fields-requires put-day-requires slice-write-buffer add-result same-length returns)
+    tie.close
+    (tie.spec
+    (λ c κs. search needs) put-day-requires slice-write-buffer (λ c. omega (arith, slice-write-buffer c)) (λ c. put-length (returns c .1 .1)) returns)

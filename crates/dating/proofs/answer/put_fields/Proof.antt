@@ -7,11 +7,6 @@ use Rattle.calendar.specs.Weekday.{weekday}
 use Rattle.dating.proofs.answer.put_fields.Statement.{statement}
 use Rattle.dating.proofs.answer.put_fields.Tie as tie
 
-put-number-requires : tie.Need-put-number-requires
-put-number-requires c κs =
-    let start = c .before .before .before .before in
-    omega (arith, fields-length _ _ (start .pre .1) .0, start .pre .0)
-
 put-number-requires-2 : tie.Need-put-number-requires-2
 put-number-requires-2 c κs =
     let zero = c .before .before .before in
@@ -43,9 +38,6 @@ put-fields-spec =
     tie.close
     (tie.spec
     (λ c κs. search needs) (λ c κs. search needs)
-    put-number-requires
-    put-number-requires-2
-    (λ c. search needs)
-    put-number-requires-3
-    (λ c. search needs)
+    (λ c κs. let start = c .before .before .before .before in omega (arith, fields-length _ _ (start .pre .1) .0, start .pre .0))
+    put-number-requires-2 (λ c. search needs) put-number-requires-3 (λ c. search needs)
     returns)

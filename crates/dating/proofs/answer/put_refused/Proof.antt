@@ -9,10 +9,8 @@ put-number-requires c κs =
     let l = refused-length (c .before .before .before .args .refusal) in
     rw (c .refusal-number .ensures) (omega (arith, c .before .before .before .pre))
 
-returns : tie.Need-returns
-returns c = rw (← c .before .before .before .refusal-number .ensures) (c .before .before .put-number .ensures)
-
 pub put-refused-spec : {M : Type 1} → statement M
 put-refused-spec =
     tie.close
-    (tie.spec (λ c κs. search needs) (λ c. search needs) put-number-requires (λ c. search needs) returns)
+    (tie.spec (λ c κs. search needs) (λ c. search needs) put-number-requires (λ c. search needs)
+    (λ c. rw (← c .before .before .before .refusal-number .ensures) (c .before .before .put-number .ensures)))

@@ -6,12 +6,6 @@ use Rattle.dating.specs.declared.line.Ending.the-variants.{At}
 use Rattle.dating.proofs.line.day_of_line.Statement.{statement}
 use Rattle.dating.proofs.line.day_of_line.Tie as tie
 
-returns : tie.Need-returns
-returns c = no-bytes _ (c .if1 .taken)
-
-returns-2 : tie.Need-returns-2
-returns-2 c = too-many _ (omega (arith, c .if2 .taken))
-
 returns-3 : tie.Need-returns-3
 returns-3 c =
     let few = c .before .before .before in
@@ -21,12 +15,6 @@ ends : (c : tie.After-known-told)
     → let found = c .before .phrase .given .0 in
     TellsEnding (c .before .before .before .before .before .before .before .args .line .now) (At (found .0) (found .1 .0))
 ends c = rw (c .before .phrase .given .1) at (c .before .before .before .ending-of .ensures)
-
-slice-aggregate-phrase-in-year : tie.Need-slice-aggregate-phrase-in-year
-slice-aggregate-phrase-in-year c = sym (size _ _ _ (ends (c .before)))
-
-phrase-in-year-requires : tie.Need-phrase-in-year-requires
-phrase-in-year-requires c κs = rw (size _ _ _ (ends (c .before .before))) (omega (arith, ending-of _ _ _ (ends (c .before .before)) .0))
 
 returns-4 : tie.Need-returns-4
 returns-4 c =
@@ -38,11 +26,9 @@ pub day-of-line-spec : {M : Type 1} → statement M
 day-of-line-spec =
     tie.close
     (tie.spec
-    returns
-    returns-2
+    (λ c. no-bytes _ (c .if1 .taken)) (λ c. too-many _ (omega (arith, c .if2 .taken)))
     (λ c κs. search needs) (λ c. search needs) (λ c. search needs)
     returns-3
-    slice-aggregate-phrase-in-year
-    (λ c κs. search needs)
-    phrase-in-year-requires
+    (λ c. sym (size _ _ _ (ends (c .before)))) (λ c κs. search needs)
+    (λ c κs. rw (size _ _ _ (ends (c .before .before))) (omega (arith, ending-of _ _ _ (ends (c .before .before)) .0)))
     returns-4)

@@ -8,23 +8,14 @@ use borrow.Author.Needs.{needs}
 use borrow.Author.Tests.{not-true, not-false}
 use Rattle.words.proofs.text.Laws.{rest}
 use Rattle.dating.proofs.line.Laws.{too-short, no-last-space, no-style, no-year-space, no-year, ending-told, four-told}
-use Rattle.dating.specs.Steps.{isLetter}
+use Rattle.dating.specs.Steps.{isStyleLetter}
 use Rattle.dating.proofs.line.ending_of.Statement.{statement}
 use Rattle.dating.proofs.line.ending_of.Tie as tie
 
-returns : tie.Need-returns
-returns c = too-short _ (c .if1 .taken)
-
-returns-2 : tie.Need-returns-2
-returns-2 c = no-last-space _ (c .if2 .taken)
-
-returns-3 : tie.Need-returns-3
-returns-3 c = no-style _ (sym (c .before .is-letter .ensures) ∙ not-true _ (c .if3 .taken))
-
 letter : (c : tie.Else3)
     → let s = c .before .before .before .before .before .before .before .args .line .now in
-    isLetter (getD s (length s - 1) 0) ≡ true
-letter c = sym (c .before .is-letter .ensures) ∙ not-false _ (c .if3 .left)
+    isStyleLetter (getD s (length s - 1) 0) ≡ true
+letter c = sym (c .before .is-style-letter .ensures) ∙ not-false _ (c .if3 .left)
 
 returns-4 : tie.Need-returns-4
 returns-4 c =
@@ -32,16 +23,6 @@ returns-4 c =
     let style = gap .before .before .before in
     rw (style .style-of-letter .ensures) (four-told _ _ (c .before .four-digits .ensures) (omega arith) (omega arith) (gap .if5 .taken)
     (style .before .before .before .before .if2 .left) (letter (style .before)))
-
-slice-aggregate-front : tie.Need-slice-aggregate-front
-slice-aggregate-front c = sym (length-take-le _ _ (omega arith))
-
-returns-5 : tie.Need-returns-5
-returns-5 c = no-year-space _ _ (c .before .behind-last .ensures) (c .if7 .taken)
-
-returns-6 : tie.Need-returns-6
-returns-6 c =
-    no-year _ _ (c .before .before .before .before .behind-last .ensures) _ (rw (rest _ _) at (c .before .number-of .ensures)) (c .if8 .taken)
 
 returns-7 : tie.Need-returns-7
 returns-7 c =
@@ -55,18 +36,15 @@ pub ending-of-spec : {M : Type 1} → statement M
 ending-of-spec =
     tie.close
     (tie.spec
-    returns
-    (λ c. search needs)
-    returns-2
-    (λ c. search needs) (λ c. search needs) (λ c κs. search needs)
-    returns-3
+    (λ c. too-short _ (c .if1 .taken)) (λ c. search needs)
+    (λ c. no-last-space _ (c .if2 .taken)) (λ c. search needs) (λ c. search needs) (λ c κs. search needs)
+    (λ c. no-style _ (sym (c .before .is-style-letter .ensures) ∙ not-true _ (c .if3 .taken)))
     (λ c κs. search needs) (λ c. search needs) (λ c. search needs) (λ c. search needs) (λ c. search needs) (λ c. search needs) (λ c. search needs)
     (λ c. search needs) (λ c. search needs) (λ c. search needs) (λ c. search needs) (λ c κs. search needs) (λ c. search needs) (λ c. search needs)
     returns-4
-    slice-aggregate-front
-    (λ c κs. search needs)
-    returns-5
+    (λ c. sym (length-take-le _ _ (omega arith))) (λ c κs. search needs)
+    (λ c. no-year-space _ _ (c .before .behind-last .ensures) (c .if7 .taken))
     (λ c. search needs) (λ c. search needs) (λ c. search needs) (λ c κs. search needs)
-    returns-6
+    (λ c. no-year _ _ (c .before .before .before .before .behind-last .ensures) _ (rw (rest _ _) at (c .before .number-of .ensures)) (c .if8 .taken))
     (λ c. search needs)
     returns-7)

@@ -10,21 +10,12 @@ reads : (c : tie.After-known-told)
     ReadFrom (c .before .before .before .before .before .args .line .now) (r .0) (r .1 .0) (r .1 .1 .0)
 reads c = rw (c .before .phrase .given .1) at (c .before .before .before .reading-of-line .ensures)
 
-slice-aggregate-behind-last : tie.Need-slice-aggregate-behind-last
-slice-aggregate-behind-last c = sym (phrase-fits _ _ _ _ (reads (c .before)))
-
-returns : tie.Need-returns
-returns c = accepted-place _ _ _ _ (reads (c .before .before)) _ (c .behind-last .ensures)
-
-returns-2 : tie.Need-returns-2
-returns-2 c = refused-place _ _ (rw (c .enum-told .given .1) at (c .before .before .reading-of-line .ensures))
-
 pub place-of-part-spec : {M : Type 1} → statement M
 place-of-part-spec =
     tie.close
     (tie.spec
     (λ c κs. search needs) (λ c. search needs)
-    slice-aggregate-behind-last
+    (λ c. sym (phrase-fits _ _ _ _ (reads (c .before))))
     (λ c κs. search needs) (λ c. search needs)
-    returns
-    returns-2)
+    (λ c. accepted-place _ _ _ _ (reads (c .before .before)) _ (c .behind-last .ensures))
+    (λ c. refused-place _ _ (rw (c .enum-told .given .1) at (c .before .before .reading-of-line .ensures))))

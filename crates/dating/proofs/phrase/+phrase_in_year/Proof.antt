@@ -17,13 +17,13 @@ use Rattle.dating.specs.Steps.{phrases}
 use Rattle.calendar.specs.declared.refusal.Refusal.the-variants.{Form}
 use Rattle.calendar.specs.declared.span.DayAnswer.the-variants.{NoDay}
 use Rattle.words.specs.declared.wrapper.Lead.the-variants.{Wrapped, Plain}
-use Rattle.calendar.proofs.style.style_by.Reads as style-by-reads
-use Rattle.dating.proofs.anchor.anchor_in_year.Reads as anchor-in-year-reads
+use Rattle.calendar.proofs.style.style_by.Reads as style-by
+use Rattle.dating.proofs.anchor.anchor_in_year.Reads as anchor-in-year
 use Rattle.dating.proofs.phrase.+phrase_in_year.Lts-phrase_in_year as lts
 use Rattle.dating.proofs.phrase.phrase_in_year.Kinds as kinds
 use Rattle.dating.proofs.phrase.phrase_in_year.Reads as reads
-use Rattle.dating.proofs.act.act.Reads as act-reads
-use Rattle.words.proofs.wrapper.lead_of.Reads as lead-of-reads
+use Rattle.dating.proofs.act.act.Reads as act
+use Rattle.words.proofs.wrapper.lead_of.Reads as lead-of
 use Rattle.dating.proofs.phrase.+phrase_in_year.Tie.{close}
 use Rattle.dating.proofs.phrase.+phrase_in_year.{statement}
 
@@ -39,18 +39,8 @@ below t = and 1 kinds.ps (falls 1 kinds.ps _<_ μ-phrase-in-year t) reads.Pre
 
 -- what is asked and learnt of each callee, and of the reader itself below the measure t
 abbrev callees : ℕ → lts.Claims
-callees t = (
-  lead-of-reads.Asked,
-  lead-of-reads.Learnt,
-  style-by-reads.Asked,
-  style-by-reads.Learnt,
-  anchor-in-year-reads.Asked,
-  anchor-in-year-reads.Learnt,
-  below t,
-  reads.Post,
-  act-reads.Asked,
-  act-reads.Learnt,
-)
+callees t =
+    (lead-of.Asked, lead-of.Learnt, style-by.Asked, style-by.Learnt, anchor-in-year.Asked, anchor-in-year.Learnt, below t, reads.Post, act.Asked, act.Learnt)
 
 module _ (t : ℕ) where
   -- what a phrase with no wrapper tells
@@ -59,20 +49,14 @@ module _ (t : ℕ) where
       Told phrases (phraseDay (named (styleBy (a .gregorian)) (a .year))) (NoDay Form) (a .phrase .now) (c .anchor-in-year .result)
   plain c =
       let style = c .before .before .before in
-      plain-told _ _ _ (style .before .lead-of .ensures .0) (rw (c .before .if1 .taken)) _
+      plain-told _ _ _ (style .before .lead-of .ensures .told) (rw (c .before .if1 .taken)) _
       (rw (style .style-by .ensures) at (c .anchor-in-year .ensures))
-
-  returns : lts.Need-returns (callees t) (at t) reads.Post
-  returns c = plain (c .before .before)
-
-  returns-2 : lts.Need-returns-2 (callees t) (at t) reads.Post
-  returns-2 c = rw (c .before .answer .given .1) at (plain (c .before .before .before))
 
   -- the wrapper that the phrase begins with
   begins : (c : lts.Else1 (callees t) (at t) reads.Post)
       → let found = c .before .before .before .lead-of .result in
       Told leadings lead Plain (c .before .before .before .before .before .args .phrase .now) (Wrapped (wrapperOf (found .number)) (found .length))
-  begins c = rw (ne-eqb _ 0 (c .if1 .left)) at (c .before .before .before .lead-of .ensures .0)
+  begins c = rw (ne-eqb _ 0 (c .if1 .left)) at (c .before .before .before .lead-of .ensures .told)
 
   -- what the rest behind it tells
   tells : (c : lts.After-phrase-in-year (callees t) (at t) reads.Post)
@@ -94,9 +78,6 @@ module _ (t : ℕ) where
       let refusal = c .enum-told2 .given .1 in
       rw (← refusal) at (wrapped-told _ _ _ (begins (k .before .before)) _ _ (rw refusal at (tells k)))
 
-  fits : lts.Need-sub-phrase-in-year (callees t) (at t) reads.Post
-  fits c = shorter _ _ _ (begins c) .1
-
   phrase-in-year-requires : lts.Need-phrase-in-year-requires (callees t) (at t) reads.Post
   phrase-in-year-requires c κs =
       let found = c .before .before .before .before in
@@ -115,7 +96,7 @@ module _ (t : ℕ) where
       let style = wrapper .before .before in
       let good = leads _ _ _ (begins wrapper) .1 in
       let some = wrapper .if1 .left in (
-        (omega arith, style .before .lead-of .ensures .1),
+        (omega arith, style .before .lead-of .ensures .known),
         (good, rw (style .style-by .ensures) (told-in-span _ _ _ (rw (c .before .behind .given .1) at (tells k)))),
       )
 
@@ -124,13 +105,7 @@ pub +phrase-in-year-spec : {M : Type 1} → statement M
     close μ-phrase-in-year
     λ t. lts.spec (callees t) (at t) reads.Post
     (λ c κs. search needs) (λ c κs. search needs) (λ c κs. search needs) (λ c. search needs) (λ c. search needs)
-    (returns t)
-    (returns-2 t)
-    (fits t)
-    (fits t)
-    (λ c. search needs)
-    (phrase-in-year-requires t)
-    (λ c. search needs) (λ c. search needs)
-    (returns-3 t)
-    (act-requires t)
-    (returns-4 t)
+    (λ c. plain t (c .before .before)) (λ c. rw (c .before .answer .given .1) at (plain t (c .before .before .before)))
+    (λ c. shorter _ _ _ (begins t c) .1) (λ c. shorter _ _ _ (begins t c) .1) (λ c. search needs)
+    (phrase-in-year-requires t) (λ c. search needs) (λ c. search needs)
+    (returns-3 t) (act-requires t) (returns-4 t)

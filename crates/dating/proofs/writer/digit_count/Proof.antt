@@ -2,6 +2,7 @@ use mathlib.Core.Path.{_≡_, ap}
 use Prim.Native.Nat.{_+_, _≤_}
 use native.Mathlib.Omega.{arith}
 use lib.ListN.{length}
+use borrow.Author.Needs.{needs}
 use Rattle.words.proofs.numeral.Laws.{one-digit, numeral-length, more-length}
 use Rattle.words.specs.Numeral.{numeral}
 use Rattle.dating.proofs.writer.digit_count.Statement.{statement}
@@ -13,29 +14,19 @@ Inv-loop number count₀ rest₀ count rest = (rest ≤ number) × (count + leng
 abbrev μ-loop : tie.MeasureT-loop
 μ-loop number count₀ rest₀ count rest = rest
 
-loop-holds : tie.Need-loop-holds Inv-loop μ-loop
-loop-holds c = (omega arith, omega arith)
-
 add-count : tie.Need-add-count Inv-loop μ-loop
 add-count c =
-    let l = numeral-length ((c .before .before .args) .number) .1 in
-    let k = numeral-length ((c .before .loop) .rest) .0 in
-    omega (arith, (c .before .loop) .inv)
-
-loop-less : tie.Need-loop-less Inv-loop μ-loop
-loop-less c = omega (arith, (c .loop-test) .taken)
+    omega (arith, numeral-length (c .before .before .args .number) .1, numeral-length (c .before .loop .rest) .0, c .before .loop .inv)
 
 loop-again : tie.Need-loop-again Inv-loop μ-loop
 loop-again c =
-    let l = more-length ((c .before .loop) .rest) ((c .loop-test) .taken) (omega (arith, (c .before .loop) .inv, (c .before .before .fits) .number)) in
-    (omega (arith, (c .before .loop) .inv), omega (arith, (c .before .loop) .inv))
+    let inv = c .before .loop .inv in
+    let l = more-length (c .before .loop .rest) (c .loop-test .taken) (omega (arith, inv .0, c .before .before .fits .number)) in
+    (omega (arith, inv .0), omega (arith, inv .1))
 
 returns : tie.Need-returns Inv-loop μ-loop
-returns c =
-    let l = one-digit ((c .before .loop) .rest) (omega (arith, (c .loop-test) .left)) in
-    let k = ap length l in
-    omega (arith, (c .before .loop) .inv)
+returns c = omega (arith, ap length (one-digit (c .before .loop .rest) (omega (arith, c .loop-test .left))), c .before .loop .inv)
 
 pub digit-count-spec : {M : Type 1} → statement M
 digit-count-spec =
-    tie.close (tie.spec Inv-loop μ-loop loop-holds add-count loop-less loop-again returns)
+    tie.close (tie.spec Inv-loop μ-loop (λ c. search needs) add-count (λ c. search needs) loop-again returns)

@@ -18,13 +18,9 @@ Inv-loop buffer₀ at number behind end i₀ rest₀ buffer i rest =
 abbrev μ-loop : tie.MeasureT-loop
 μ-loop buffer₀ at number behind end i₀ rest₀ buffer i rest = rest
 
-add-end : tie.Need-add-end Inv-loop μ-loop
-add-end c =
-    let a = c .before .before .args in
-    omega (arith, field-length (a .number) (a .behind), c .digit-count .ensures, c .before .before .pre)
-
-slice-write-buffer : tie.Need-slice-write-buffer Inv-loop μ-loop
-slice-write-buffer c =
+-- the digits and the byte behind them fit
+fits : (c : tie.After-digit-count Inv-loop μ-loop) → let a = c .before .before .args in a .at + c .digit-count .result < length (a .buffer .now)
+fits c =
     let a = c .before .before .args in
     omega (arith, field-length (a .number) (a .behind), c .digit-count .ensures, c .before .before .pre)
 
@@ -32,42 +28,20 @@ loop-holds : tie.Need-loop-holds Inv-loop μ-loop
 loop-holds c =
     let a = c .before .before .args in
     let same = length-set (a .buffer .now) (a .at + c .digit-count .result) (a .behind) in
-    let l = field-length (a .number) (a .behind) in
-    (omega arith, omega (arith, c .digit-count .ensures), rw same (omega (arith, c .digit-count .ensures, c .before .before .pre)), refl, refl)
-
-sub-i : tie.Need-sub-i Inv-loop μ-loop
-sub-i c = omega (arith, numeral-length (c .before .loop .rest) .0, c .before .loop .inv)
-
-slice-write-buffer-2 : tie.Need-slice-write-buffer-2 Inv-loop μ-loop
-slice-write-buffer-2 c = omega (arith, c .before .loop .inv)
-
-loop-less : tie.Need-loop-less Inv-loop μ-loop
-loop-less c = omega (arith, c .loop-test .taken)
+    (omega arith, omega (arith, c .digit-count .ensures), rw same (fits c), refl, refl)
 
 loop-again : tie.Need-loop-again Inv-loop μ-loop
 loop-again c =
-    let l = c .before .loop in
-    let inv = l .inv in
-    let n = l .rest in
-    let s = l .buffer in
-    let i = l .i in
+    let l = c .before .loop in let inv = l .inv in let n = l .rest in
     let high : n ≤ 18446744073709551616 = omega (arith, inv .0, c .before .before .before .before .fits .number) in
     let more = more-length n (c .loop-test .taken) high in
-    let same = length-set s (i - 1) (48 + n % 10) in (
+    let same = length-set (l .buffer) (l .i - 1) (48 + n % 10) in (
       omega (arith, inv .0),
       omega (arith, inv .1),
       rw same (omega (arith, inv .2)),
       same ∙ inv .3,
-      rw (inv .1) (last-digit s (c .before .before .before .before .args .at) n (c .loop-test .taken) high) ∙ inv .4,
+      rw (inv .1) (last-digit (l .buffer) (c .before .before .before .before .args .at) n (c .loop-test .taken) high) ∙ inv .4,
     )
-
-slice-write-buffer-3 : tie.Need-slice-write-buffer-3 Inv-loop μ-loop
-slice-write-buffer-3 c = omega (arith, c .before .loop .inv)
-
-add-result : tie.Need-add-result Inv-loop μ-loop
-add-result c =
-    let a = c .before .before .before .before .args in
-    omega (arith, field-length (a .number) (a .behind), c .before .before .digit-count .ensures, c .before .before .before .before .pre)
 
 same-length : tie.Need-same-length Inv-loop μ-loop
 same-length c =
@@ -91,19 +65,12 @@ pub put-number-spec : {M : Type 1} → statement M
 put-number-spec =
     tie.close
     (tie.spec
-    Inv-loop
-    μ-loop
-    (λ c κs. search needs)
-    add-end
-    slice-write-buffer
+    Inv-loop μ-loop
+    (λ c κs. search needs) (λ c. omega (arith, fits c)) (λ c. omega (arith, fits c))
     loop-holds
-    sub-i
-    (λ c. search needs) (λ c. search needs)
-    slice-write-buffer-2
-    loop-less
+    (λ c. omega (arith, numeral-length (c .before .loop .rest) .0, c .before .loop .inv))
+    (λ c. search needs) (λ c. search needs) (λ c. search needs) (λ c. search needs)
     loop-again
-    (λ c. search needs) (λ c. search needs)
-    slice-write-buffer-3
-    add-result
+    (λ c. search needs) (λ c. search needs) (λ c. search needs) (λ c. omega (arith, fits (c .before .before)))
     same-length
     returns)

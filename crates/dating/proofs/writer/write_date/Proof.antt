@@ -8,10 +8,8 @@ returns c =
     let known = c .before .before .before .before .before in
     rw (← known .before .before .style-of .ensures, known .known .given .1) (c .before .before .write-in-style .ensures)
 
-returns-2 : tie.Need-returns-2
-returns-2 c = rw (← c .before .before .before .style-of .ensures, c .before .refusal .given .1) (refl, refl)
-
 pub write-date-spec : {M : Type 1} → statement M
 write-date-spec =
     tie.close
-    (tie.spec (λ c κs. search needs) (λ c. search needs) (λ c κs. search needs) (λ c. search needs) (λ c. search needs) returns returns-2)
+    (tie.spec (λ c κs. search needs) (λ c. search needs) (λ c κs. search needs) (λ c. search needs) (λ c. search needs) returns
+    (λ c. rw (← c .before .before .before .style-of .ensures, c .before .refusal .given .1) (refl, refl)))

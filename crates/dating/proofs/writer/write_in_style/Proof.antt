@@ -6,11 +6,6 @@ use Rattle.dating.proofs.writer.Laws.{too-short, outside, written}
 use Rattle.dating.proofs.writer.write_in_style.Statement.{statement}
 use Rattle.dating.proofs.writer.write_in_style.Tie as tie
 
-returns : tie.Need-returns
-returns c =
-    let a = c .before .before .args in
-    too-short (a .style) (a .day) (a .buffer .now) (c .if1 .taken)
-
 put-day-requires : tie.Need-put-day-requires
 put-day-requires c κs =
     let within = c .before .before .before in
@@ -30,4 +25,7 @@ returns-3 c =
 pub write-in-style-spec : {M : Type 1} → statement M
 write-in-style-spec =
     tie.close
-    (tie.spec returns (λ c κs. search needs) (λ c. search needs) put-day-requires (λ c. search needs) (λ c. search needs) returns-2 returns-3)
+    (tie.spec
+    (λ c. let a = c .before .before .args in too-short (a .style) (a .day) (a .buffer .now) (c .if1 .taken))
+    (λ c κs. search needs) (λ c. search needs)
+    put-day-requires (λ c. search needs) (λ c. search needs) returns-2 returns-3)

@@ -11,12 +11,12 @@ seven : (c : tie.Else1) → 7 ≤ length (c .before .before .before .args .phras
 seven c = rw (not-false (c .before .may-lead .result) (c .if1 .left)) at (c .before .may-lead .ensures)
 
 returns : tie.Need-returns
-returns c = (plain (rw (not-true (c .before .may-lead .result) (c .if1 .taken)) at (c .before .may-lead .ensures)), omega arith)
+returns c = plain (rw (not-true (c .before .may-lead .result) (c .if1 .taken)) at (c .before .may-lead .ensures))
 
 returns-2 : tie.Need-returns-2
 returns-2 c =
     let s = c .before .before .before .before .before .before .before .args .phrase .now in
-    (plain (no-room s (c .before .length-by .ensures) (c .if2 .taken)), omega arith)
+    plain (no-room s (c .before .length-by .ensures) (c .if2 .taken))
 
 is-word-requires : tie.Need-is-word-requires
 is-word-requires c κs =

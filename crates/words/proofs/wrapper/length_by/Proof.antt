@@ -6,7 +6,7 @@ use borrow.Author.Tests.{eq-eqb, ne-eqb}
 use Rattle.words.proofs.wrapper.length_by.Statement.{statement}
 use Rattle.words.proofs.wrapper.length_by.Tie as tie
 
-weekday : (c : tie.Joined1) → (c .if1 .behind-weekday) ≡ cond (eqb (c .before .args .fifth) 98) 11 10
+weekday : (c : tie.Joined1) → (c .if1 .weekday-length) ≡ cond (eqb (c .before .args .fifth) 98) 11 10
 weekday c = ⊎-elim (λ w. w .1 ∙ rw (eq-eqb _ 98 (w .0 .taken))) (λ w. w .1 ∙ rw (ne-eqb _ 98 (w .0 .left))) (c .if1 .came)
 
 returns : tie.Need-returns
