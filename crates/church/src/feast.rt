@@ -47,87 +47,32 @@ const FROM_EASTER: [u8; 23] = [
     123, // corpus (60)
 ];
 
-// The days and the months of the feasts 24 to 47.
-const FIXED_DAYS: [u8; 24] = [
-    1, // circumcision
-    6, // epiphany
-    2, // candlemas
-    24, // matthias
-    25, // annunciation
-    25, // mark
-    1, // philip
-    24, // baptist
-    29, // peter
-    22, // magdalene
-    25, // james
-    10, // laurence
-    15, // assumption
-    24, // bartholomew
-    21, // matthew
-    29, // michael
-    18, // luke
-    28, // simon
-    1, // saints
-    11, // martin
-    30, // andrew
-    6, // nicholas
-    21, // thomas
-    25, // christmas
-];
-
-const FIXED_MONTHS: [u8; 24] = [
-    1, // circumcision
-    1, // epiphany
-    2, // candlemas
-    2, // matthias
-    3, // annunciation
-    4, // mark
-    5, // philip
-    6, // baptist
-    6, // peter
-    7, // magdalene
-    7, // james
-    8, // laurence
-    8, // assumption
-    8, // bartholomew
-    9, // matthew
-    9, // michael
-    10, // luke
-    10, // simon
-    11, // saints
-    11, // martin
-    11, // andrew
-    12, // nicholas
-    12, // thomas
-    12, // christmas
-];
-
-// How many days later the feasts 24 to 47 are kept in a leap year.
-const LATER_IN_LEAP_YEARS: [u8; 24] = [
-    0, // circumcision
-    0, // epiphany
-    0, // candlemas
-    1, // matthias
-    0, // annunciation
-    0, // mark
-    0, // philip
-    0, // baptist
-    0, // peter
-    0, // magdalene
-    0, // james
-    0, // laurence
-    0, // assumption
-    0, // bartholomew
-    0, // matthew
-    0, // michael
-    0, // luke
-    0, // simon
-    0, // saints
-    0, // martin
-    0, // andrew
-    0, // nicholas
-    0, // thomas
-    0, // christmas
+// The dates of the feasts 24 to 47, each as one number: the day, 32 times the month, and 512 for one that is a day later in leap years.
+const FIXED_DATES: [u16; 24] = [
+    33, // circumcision (1.1)
+    38, // epiphany (6.1)
+    66, // candlemas (2.2)
+    600, // matthias (24.2, in leap years a day later)
+    121, // annunciation (25.3)
+    153, // mark (25.4)
+    161, // philip (1.5)
+    216, // baptist (24.6)
+    221, // peter (29.6)
+    246, // magdalene (22.7)
+    249, // james (25.7)
+    266, // laurence (10.8)
+    271, // assumption (15.8)
+    280, // bartholomew (24.8)
+    309, // matthew (21.9)
+    317, // michael (29.9)
+    338, // luke (18.10)
+    348, // simon (28.10)
+    353, // saints (1.11)
+    363, // martin (11.11)
+    382, // andrew (30.11)
+    390, // nicholas (6.12)
+    405, // thomas (21.12)
+    409, // christmas (25.12)
 ];
 
 // The day of a feast that hangs on Easter.
@@ -150,12 +95,10 @@ fn fixed_in_year(named: NamedYear, feast: u64) -> DayAnswer
     ensures { λ r. ⌜ r ≡ ruleDay named (rule feast) ⌝ }
 {
     let i = (feast - 24) as usize;
-    let later = if is_leap(named) {
-        LATER_IN_LEAP_YEARS[i] as u64
-    } else {
-        0
-    };
-    day_in_year(named, FIXED_MONTHS[i] as u64, FIXED_DAYS[i] as u64 + later)
+    let date = FIXED_DATES[i] as u64;
+    let in_leap_years = date / 512;
+    let later = if is_leap(named) { in_leap_years } else { 0 };
+    day_in_year(named, date / 32 % 16, date % 32 + later)
 }
 
 // Advent, the first Sunday after 26 November.

@@ -2,7 +2,7 @@
 use mathlib.Core.Bool.{Bool, true, false, _&&_, cond}
 use mathlib.Core.List.{List, [], _∷_}
 use mathlib.Core.Path.{_≡_, refl, _∙_}
-use Prim.Native.Nat.{ℕ, suc, pred, _+_, _-_, _≤_, _<_}
+use Prim.Native.Nat.{ℕ, suc, pred, _+_, _-_, _/_, _%_, _≤_, _<_}
 use native.Mathlib.Omega.{arith}
 use lib.Dec.{T, leb, eqb, leb→le, eqb→eq}
 use lib.IntN.{ℤ, pos, negsuc}
@@ -37,18 +37,10 @@ fromEaster =
     0 ∷ 7 ∷ 14 ∷ 17 ∷ 21 ∷ 28 ∷ 35 ∷ 42 ∷ 49 ∷ 56 ∷ 60 ∷ 61
     ∷ 63 ∷ 70 ∷ 77 ∷ 84 ∷ 91 ∷ 98 ∷ 102 ∷ 105 ∷ 112 ∷ 119 ∷ 123 ∷ []
 
-abbrev pub fixedDays : List ℕ
-fixedDays =
-    1 ∷ 6 ∷ 2 ∷ 24 ∷ 25 ∷ 25 ∷ 1 ∷ 24 ∷ 29 ∷ 22 ∷ 25
-    ∷ 10 ∷ 15 ∷ 24 ∷ 21 ∷ 29 ∷ 18 ∷ 28 ∷ 1 ∷ 11 ∷ 30 ∷ 6 ∷ 21 ∷ 25 ∷ []
-
-abbrev pub fixedMonths : List ℕ
-fixedMonths =
-    1 ∷ 1 ∷ 2 ∷ 2 ∷ 3 ∷ 4 ∷ 5 ∷ 6 ∷ 6 ∷ 7 ∷ 7 ∷ 8 ∷ 8 ∷ 8 ∷ 9 ∷ 9 ∷ 10 ∷ 10 ∷ 11 ∷ 11 ∷ 11 ∷ 12 ∷ 12 ∷ 12 ∷ []
-
-abbrev pub laterInLeapYears : List ℕ
-laterInLeapYears =
-    0 ∷ 0 ∷ 0 ∷ 1 ∷ 0 ∷ 0 ∷ 0 ∷ 0 ∷ 0 ∷ 0 ∷ 0 ∷ 0 ∷ 0 ∷ 0 ∷ 0 ∷ 0 ∷ 0 ∷ 0 ∷ 0 ∷ 0 ∷ 0 ∷ 0 ∷ 0 ∷ 0 ∷ []
+abbrev pub fixedDates : List ℕ
+fixedDates =
+    33 ∷ 38 ∷ 66 ∷ 600 ∷ 121 ∷ 153 ∷ 161 ∷ 216 ∷ 221 ∷ 246 ∷ 249 ∷ 266
+    ∷ 271 ∷ 280 ∷ 309 ∷ 317 ∷ 338 ∷ 348 ∷ 353 ∷ 363 ∷ 382 ∷ 390 ∷ 405 ∷ 409 ∷ []
 
 -- a rule is b less 63 days from Easter
 hung-as : Rule → ℕ → Bool
@@ -101,13 +93,16 @@ dated b (on d′ m′) d m = eqb d′ d && eqb m′ m
 dated b (onOrInLeapYears d′ m′ d″ m″) d m = eqb (cond b d″ d′) d && eqb (cond b m″ m′) m
 dated b advent d m = false
 
--- the day of the month that the code's tables give for a leap or for a common year
-abbrev pub dayOfMonth : Bool → ℕ → ℕ
-dayOfMonth b i = getD fixedDays i 0 + cond b (getD laterInLeapYears i 0) 0
+-- the month, and the day of it for a leap or for a common year, that the code's table gives
+abbrev pub monthOf : ℕ → ℕ
+monthOf i = getD fixedDates i 0 / 32 % 16
 
-dated-tested : (b : Bool) (i : ℕ) → i < 24 → T (dated b (rule (i + 24)) (dayOfMonth b i) (getD fixedMonths i 0))
+abbrev pub dayOfMonth : Bool → ℕ → ℕ
+dayOfMonth b i = getD fixedDates i 0 % 32 + cond b (getD fixedDates i 0 / 512) 0
+
+dated-tested : (b : Bool) (i : ℕ) → i < 24 → T (dated b (rule (i + 24)) (dayOfMonth b i) (monthOf i))
 unfolding dated
-dated-tested b i h = of-both (λ b i. dated b (rule (i + 24)) (dayOfMonth b i) (getD fixedMonths i 0)) 24 tt b i h
+dated-tested b i h = of-both (λ b i. dated b (rule (i + 24)) (dayOfMonth b i) (monthOf i)) 24 tt b i h
 
 dated-rule : (t : NamedYear) (r : Rule) (d m : ℕ) → T (dated (leap (t .style) (t .year)) r d m) → ruleDay t r ≡ dayInYear t m d
 unfolding dated dayInYear
@@ -124,17 +119,17 @@ dated-rule t (onOrInLeapYears d′ m′ d″ m″) d m h =
 dated-rule t advent d m h = absurd h
 
 pub fixed-day : (t : NamedYear) (i : ℕ) → i < 24
-    → ruleDay t (rule (i + 24)) ≡ dayInYear t (getD fixedMonths i 0) (dayOfMonth (leap (t .style) (t .year)) i)
+    → ruleDay t (rule (i + 24)) ≡ dayInYear t (monthOf i) (dayOfMonth (leap (t .style) (t .year)) i)
 fixed-day t i h =
     let l = leap (t .style) (t .year) in
-    dated-rule t (rule (i + 24)) (dayOfMonth l i) (getD fixedMonths i 0) (dated-tested l i h)
+    dated-rule t (rule (i + 24)) (dayOfMonth l i) (monthOf i) (dated-tested l i h)
 
-small-date : Bool → ℕ → Bool
-small-date b i = leb (dayOfMonth b i + getD fixedMonths i 0) 43
+small-date : ℕ → Bool
+small-date i = leb (getD fixedDates i 0) 1023
 
-pub fixed-small : (b : Bool) (i : ℕ) → i < 24 → dayOfMonth b i + getD fixedMonths i 0 ≤ 43
+pub fixed-small : (i : ℕ) → i < 24 → getD fixedDates i 0 ≤ 1023
 unfolding small-date
-fixed-small b i h = leb→le _ 43 (of-both small-date 24 tt b i h)
+fixed-small i h = leb→le _ 1023 (below small-date 24 tt i h)
 
 -- a feast of the table is kept by its rule
 pub in-table : (t : NamedYear) (f : ℕ) → between 1 f 48 ≡ true → feastInYear t f ≡ ruleDay t (rule f)
