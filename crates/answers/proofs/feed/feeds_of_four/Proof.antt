@@ -12,7 +12,8 @@ add-result-2 c = omega (arith, c .before .before .feeds-of-one .ensures, c .befo
 
 add-result-3 : tie.Need-add-result-3
 add-result-3 c =
-    omega (arith, c .before .before .before .feeds-of-one .ensures, c .before .before .feeds-of-one2 .ensures, c .before .feeds-of-one3 .ensures, c .feeds-of-one4 .ensures)
+    let first = c .before .before .before in
+    omega (arith, first .feeds-of-one .ensures, c .before .before .feeds-of-one2 .ensures, c .before .feeds-of-one3 .ensures, c .feeds-of-one4 .ensures)
 
 returns : tie.Need-returns
 unfolding feeds

@@ -21,7 +21,8 @@ add-place : tie.Need-add-place Inv-loop μ-loop
 add-place c =
     let l = c .before .before .before .before .before .before in
     let line = c .before .before .before .before in
-    omega (arith, line-room (l .before .before .before .pre) (l .loop .inv) (c .before .before .before .before .before .loop-test .taken) _ (line .line-at .ensures .end))
+    let some = c .before .before .before .before .before .loop-test .taken in
+    omega (arith, line-room (l .before .before .before .pre) (l .loop .inv) some _ (line .line-at .ensures .end))
 
 add-start : tie.Need-add-start Inv-loop μ-loop
 add-start c = omega (arith, c .before .before .before .before .before .line-at .ensures .end .quiet .inside)
