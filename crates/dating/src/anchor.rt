@@ -4,7 +4,7 @@ use calendar::refusal::Refusal;
 use calendar::span::DayAnswer;
 use calendar::year::NamedYear;
 use church::feast::feast_in_year;
-use words::numeral::number_of;
+use words::numeral::short_number_of;
 use words::word::feast_of_word;
 ghost use Rattle.calendar.specs.declared.refusal.Refusal.the-variants.{Form};
 ghost use Rattle.calendar.specs.declared.span.DayAnswer.the-variants.{NoDay};
@@ -31,11 +31,11 @@ pub(crate) fn anchor_in_year(anchor: &[u8], named: NamedYear) -> DayAnswer
         return DayAnswer::NoDay(Refusal::Form);
     }
     let start = end + 1;
-    let day = number_of(&anchor[..end], 31);
+    let day = short_number_of(&anchor[..end], 31);
     if day == 0 {
         return DayAnswer::NoDay(Refusal::Form);
     }
-    let month = number_of(&anchor[start..], 12);
+    let month = short_number_of(&anchor[start..], 12);
     if month == 0 {
         return DayAnswer::NoDay(Refusal::Form);
     }

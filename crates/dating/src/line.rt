@@ -31,14 +31,17 @@ pub(crate) enum Reading {
     Refused(Refusal),
 }
 
-// Whether a byte is the letter of a style.
+// Whether a byte is the letter of a style: of the four letters from G to J, these two leave 2 by threes, so that nothing waits for which it is.
 fn is_style_letter(byte: u8) -> bool
     ensures { λ r. ⌜ r ≡ isStyleLetter byte ⌝ }
 {
-    match byte {
-        b'G' | b'J' => true,
-        _ => false,
+    if byte < b'G' {
+        return false;
     }
+    if byte > b'J' {
+        return false;
+    }
+    byte % 3 == 2
 }
 
 // The style whose letter a byte is; J for any other byte.

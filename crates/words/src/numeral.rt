@@ -1,6 +1,7 @@
 // Numerals of the line.
 ghost use mathlib.Core.List.{[], _∷_};
 ghost use mathlib.Core.Path.{_≡_};
+ghost use Prim.Native.Nat.{min};
 ghost use Rattle.words.specs.Numeral.{numerals};
 ghost use Rattle.words.specs.Steps.{digitValue};
 ghost use Rattle.words.specs.Told.{Told};
@@ -36,6 +37,39 @@ pub fn number_of(text: &[u8], high: u64) -> u64
         n = 10 * n + (byte - b'0') as u64;
         i += 1;
     }
+    if n > high {
+        return 0;
+    }
+    n
+}
+
+// The number from 1 to high, of one or two digits, whose numeral the bytes are; 0 where they are none. Nothing waits for how many digits there are.
+pub fn short_number_of(text: &[u8], high: u64) -> u64
+    ensures { λ r. ⌜ Told (numerals (min high 99)) (λ n. n) 0 (now (text .entry)) r ⌝ }
+{
+    let count = text.len();
+    if count == 0 {
+        return 0;
+    }
+    if count > 2 {
+        return 0;
+    }
+    let first = text[0];
+    if first < b'1' {
+        return 0;
+    }
+    if first > b'9' {
+        return 0;
+    }
+    let last = text[count - 1];
+    if last < b'0' {
+        return 0;
+    }
+    if last > b'9' {
+        return 0;
+    }
+    let tens = if count == 2 { first - b'0' } else { 0 };
+    let n = 10 * tens as u64 + (last - b'0') as u64;
     if n > high {
         return 0;
     }

@@ -1,8 +1,9 @@
 -- Numerals: what they are made of, by tests that antt computes at each number, and how one grows by a digit.
 use mathlib.Core.Bool.{Bool, true, false, _||_, cond}
 use mathlib.Core.List.{List, [], _∷_, _++_}
+use mathlib.Core.Logic.{_⊎_, inl, inr}
 use mathlib.Core.Path.{_≡_, refl, sym, _∙_, ap, subst}
-use Prim.Native.Nat.{ℕ, zero, suc, _+_, _-_, _*_, _/_, _%_, _<_, _≤_}
+use Prim.Native.Nat.{ℕ, zero, suc, _+_, _-_, _*_, _/_, _%_, _<_, _≤_, min}
 use native.Mathlib.Decide.{decLt}
 use native.Mathlib.Numerals.{add-one}
 use native.Mathlib.Omega.{arith}
@@ -177,6 +178,34 @@ module _ {s : List ℕ} {n i : ℕ} (p : Sofar s n i) where
     pub above : (top : ℕ) → top < n → Told (numerals top) (λ k. k) 0 s 0
     above top h =
         unproduced (λ k g f. let same = one-number k n (g .0) (omega (arith, g)) (p .low) (p .high) (f ∙ sym whole) in omega (arith, g)) refl
+
+-- ---- one or two digits
+pub too-many : (high : ℕ) (s : List ℕ) → 2 < length s → Told (numerals (min high 99)) (λ k. k) 0 s 0
+too-many high s h = unproduced (λ n g e. omega (arith, two-digits n (omega (arith, g)), ap length e)) refl
+
+pub no-last : (high : ℕ) (s : List ℕ) → ((48 ≤ getD s (length s - 1) 0) × (getD s (length s - 1) 0 ≤ 57) → ⊥) → Told (numerals high) (λ k. k) 0 s 0
+no-last high s bad = no-numeral high s (λ l. bad (l .digits (length s - 1) (omega (arith, l .some))))
+
+-- all of s is the numeral of n, which is below 100
+pub record Short (s : List ℕ) (n : ℕ) : Type 0 where
+  pub sofar : Sofar s n (length s)
+  pub small : n ≤ 99
+
+-- the first of two digits counts ten times, and the first of one is the last
+pub short-read : (s : List ℕ) {t : ℕ} → (1 ≤ length s) × (length s ≤ 2) → (49 ≤ getD s 0 0) × (getD s 0 0 ≤ 57)
+    → (48 ≤ getD s (length s - 1) 0) × (getD s (length s - 1) 0 ≤ 57)
+    → ((length s ≡ 2) × (t ≡ getD s 0 0 - 48)) ⊎ ((length s ≡ 2 → ⊥) × (t ≡ 0)) → Short s (10 * t + (getD s (length s - 1) 0 - 48))
+short-read [] n f l t = absurd (omega (arith, n))
+short-read (x ∷ []) n f l (inl t) = absurd (omega (arith, t))
+short-read (x ∷ []) n f l (inr t) =
+    let e : x - 48 ≡ 10 * 0 + (x - 48) = omega arith in
+    let one = begun (x ∷ []) (n .0) (omega arith) (f .0) (f .1) in
+    rw (t .1) (record { sofar = subst (λ k. Sofar (x ∷ []) k 1) e one; small = omega (arith, f) })
+short-read (x ∷ y ∷ []) n f l (inl t) =
+    let one = begun (x ∷ y ∷ []) (n .0) (omega arith) (f .0) (f .1) in
+    rw (t .1) (record { sofar = longer one (omega arith) (l .0) (l .1); small = omega (arith, f, l) })
+short-read (x ∷ y ∷ []) n f l (inr t) = absurd (t .0 refl)
+short-read (x ∷ y ∷ z ∷ s) n f l t = absurd (omega (arith, n))
 
 -- four digits, the first not 0
 abbrev pub FourDigits : ℕ → ℕ → ℕ → ℕ → Type 0

@@ -16,20 +16,20 @@ may c = record {
   place = ⊎-elim (λ w. inl (w .0 .taken, w .1)) (λ w. inr (w .0 .left, w .1)) (c .if4 .came);
 }
 
-sub-number-of : tie.Need-sub-number-of
-sub-number-of c = omega (arith, may (c .before .before .before .before .before .before) .early)
+sub-short-number-of : tie.Need-sub-short-number-of
+sub-short-number-of c = omega (arith, may (c .before .before .before .before .before .before) .early)
 
 returns-6 : tie.Need-returns-6
 returns-6 c =
     no-month _ _ _ (may (c .before .before .before .before .before .before .before .before .before)) _
-    (rw (rest _ _) at (c .before .number-of2 .ensures)) (c .if7 .taken)
+    (rw (rest _ _) at (c .before .short-number-of2 .ensures)) (c .if7 .taken)
 
 returns-7 : tie.Need-returns-7
 returns-7 c =
     let day = c .before .before .before .before .before in
     let there = day .before .before .before in
-    rw (c .day-in-year .ensures) (date-told _ _ _ (may (there .before .before)) _ _ (there .if5 .left) (day .number-of .ensures) (omega arith)
-    (rw (rest _ _) at (c .before .before .number-of2 .ensures)) (omega arith))
+    rw (c .day-in-year .ensures) (date-told _ _ _ (may (there .before .before)) _ _ (there .if5 .left) (day .short-number-of .ensures) (omega arith)
+    (rw (rest _ _) at (c .before .before .short-number-of2 .ensures)) (omega arith))
 
 pub anchor-in-year-spec : {M : Type 1} → statement M
 anchor-in-year-spec =
@@ -42,7 +42,7 @@ anchor-in-year-spec =
     (λ c. no-point _ _ _ (may (c .before .before)) (c .if5 .taken))
     (λ c. omega (arith, may (c .before .before .before) .early))
     (λ c. sym (length-take-le _ _ (omega (arith, may (c .before .before .before .before) .early)))) (λ c κs. search needs)
-    (λ c. no-day _ _ _ (may (c .before .before .before .before .before .before)) _ (c .before .number-of .ensures) (c .if6 .taken))
-    sub-number-of sub-number-of (λ c. search needs) (λ c κs. search needs)
+    (λ c. no-day _ _ _ (may (c .before .before .before .before .before .before)) _ (c .before .short-number-of .ensures) (c .if6 .taken))
+    sub-short-number-of sub-short-number-of (λ c. search needs) (λ c κs. search needs)
     returns-6 (λ c κs. search needs)
     returns-7)
