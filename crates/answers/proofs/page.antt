@@ -1,2 +1,1 @@
-mod Produced
 pub mod Laws

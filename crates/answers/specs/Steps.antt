@@ -2,16 +2,14 @@
 use mathlib.Core.Bool.{false, cond}
 use mathlib.Core.List.{List, [], _∷_}
 use mathlib.Core.Path.{_≡_}
-use Prim.Native.Nat.{ℕ, _+_, _-_, _<_, _≤_}
+use Prim.Native.Nat.{ℕ, suc, _+_, _-_, _*_, _<_, _≤_}
 use lib.Dec.{eqb}
 use lib.ListN.{length, take, drop, getD}
 use Rattle.words.specs.Text.{has}
 use Rattle.dating.specs.Answer.{lineFeed}
-use Rattle.dating.specs.Line.{IsNumberOfLine}
 use Rattle.answers.specs.Block.{Written}
 use Rattle.answers.specs.Lines.{endedLines, openLine, Answers}
 use Rattle.answers.specs.declared.block.Ended.{Ended}
-use Rattle.answers.specs.declared.page.Numbered.{Numbered}
 
 -- the lines that end in the bytes s are answered, and the open line begins where r says
 pub record AnswersEnded (s before after : List ℕ) (r : Ended) : Type 0 where
@@ -23,6 +21,16 @@ pub record AnswersEnded (s before after : List ℕ) (r : Ended) : Type 0 where
 unfoldable pub feeds : List ℕ → ℕ
 feeds [] = 0
 feeds (c ∷ s) = cond (eqb c lineFeed) 1 0 + feeds s
+
+-- how many bytes stand before the first line feed, all where there is none
+unfoldable pub beforeFeed : List ℕ → ℕ
+beforeFeed [] = 0
+beforeFeed (c ∷ s) = cond (eqb c lineFeed) 0 (suc (beforeFeed s))
+
+-- the bytes as digits of a number, the first the lowest: 128 for a line feed, and 0 for any other
+unfoldable pub feedBits : List ℕ → ℕ
+feedBits [] = 0
+feedBits (c ∷ s) = feedBits s * 256 + cond (eqb c lineFeed) 128 0
 
 -- the bytes of s from the place i up to the place j
 abbrev pub between : List ℕ → (i j : ℕ) → List ℕ
@@ -38,8 +46,3 @@ pub record Quiet (s : List ℕ) (i j : ℕ) : Type 0 where
 pub record EndsAt (s : List ℕ) (i j : ℕ) : Type 0 where
   pub quiet : Quiet s i j
   pub feed : j < length s → getD s j 0 ≡ lineFeed
-
--- r tells the line of s that begins at the place i
-pub record TellsLine (s : List ℕ) (i : ℕ) (r : Numbered) : Type 0 where
-  pub end : EndsAt s i (r .end)
-  pub told : IsNumberOfLine (between s i (r .end)) (r .number)

@@ -1,59 +1,49 @@
 // Line feeds: how many there are, and where a line ends.
+use words::text::pack4;
+use words::text::pack8;
 ghost use mathlib.Core.Bool.{cond};
-ghost use mathlib.Core.List.{[], _∷_};
 ghost use mathlib.Core.Path.{_≡_};
 ghost use Prim.Native.Nat.{_+_, _≤_};
-ghost use lib.Dec.{eqb};
+ghost use lib.Dec.{ltb};
 ghost use lib.ListN.{length, take, drop};
-ghost use Rattle.dating.specs.Answer.{lineFeed};
-ghost use Rattle.answers.specs.Steps.{feeds, Quiet, EndsAt};
+ghost use Rattle.answers.specs.Steps.{feeds, beforeFeed, feedBits, EndsAt};
 
-// How many line feeds one byte is: 1 or 0.
-fn feeds_of_one(byte: u8) -> u8
-    ensures { λ r. ⌜ r ≡ cond (eqb byte lineFeed) 1 0 ⌝ }
-    ensures { λ r. ⌜ r ≤ 1 ⌝ }
+// The eight bytes from a place on as a number, the first the lowest, with 128 in the place of each line feed and 0 in that of any other byte.
+fn feed_bits(bytes: &[u8], at: usize) -> u64
+    requires { ⌜ at + 8 ≤ length (now bytes) ⌝ }
+    ensures { λ r. ⌜ r ≡ feedBits (take 8 (drop at (now (bytes .entry)))) ⌝ }
 {
-    if byte == b'\n' { 1 } else { 0 }
+    let low = pack4(bytes[at], bytes[at + 1], bytes[at + 2], bytes[at + 3]);
+    let high = pack4(bytes[at + 4], bytes[at + 5], bytes[at + 6], bytes[at + 7]);
+    // 0 for a line feed alone.
+    let other = pack8(low, high) ^ 0x0a0a0a0a0a0a0a0a;
+    // At least 128 where the seven low bits of a byte are not all 0; none carries into the next byte.
+    let some = (other & 0x7f7f7f7f7f7f7f7f) + 0x7f7f7f7f7f7f7f7f;
+    !(some | other) & 0x8080808080808080
 }
 
-// How many of four bytes are line feeds.
-fn feeds_of_four(a: u8, b: u8, c: u8, d: u8) -> u8
-    ensures { λ r. ⌜ r ≡ feeds (a ∷ b ∷ c ∷ d ∷ []) ⌝ }
-    ensures { λ r. ⌜ r ≤ 4 ⌝ }
-{
-    feeds_of_one(a) + feeds_of_one(b) + feeds_of_one(c) + feeds_of_one(d)
-}
-
-// How many of the sixteen bytes from a place on are line feeds; written out, so that they are compared at once.
+// How many of the eight bytes from a place on are line feeds.
 pub(crate) fn feeds_at(bytes: &[u8], at: usize) -> usize
-    requires { ⌜ at + 16 ≤ length (now bytes) ⌝ }
-    ensures { λ r. ⌜ r ≡ feeds (take 16 (drop at (now (bytes .entry)))) ⌝ }
+    requires { ⌜ at + 8 ≤ length (now bytes) ⌝ }
+    ensures { λ r. ⌜ r ≡ feeds (take 8 (drop at (now (bytes .entry)))) ⌝ }
 {
-    let first = feeds_of_four(bytes[at], bytes[at + 1], bytes[at + 2], bytes[at + 3]);
-    let second = feeds_of_four(bytes[at + 4], bytes[at + 5], bytes[at + 6], bytes[at + 7]);
-    let third = feeds_of_four(bytes[at + 8], bytes[at + 9], bytes[at + 10], bytes[at + 11]);
-    let fourth = feeds_of_four(
-        bytes[at + 12],
-        bytes[at + 13],
-        bytes[at + 14],
-        bytes[at + 15],
-    );
-    (first + second + third + fourth) as usize
+    u64::count_ones(feed_bits(bytes, at)) as usize
 }
 
-// A place from here on up to which there is no line feed: a shortcut, in steps of sixteen bytes.
-fn quiet_from(bytes: &[u8], start: usize) -> usize
-    requires { ⌜ start ≤ length (now bytes) ⌝ }
-    ensures { λ r. ⌜ Quiet (now (bytes .entry)) start r ⌝ }
+// How many of the eight bytes from a place on stand before their first line feed: all where there is none.
+fn before_feed(bytes: &[u8], at: usize) -> usize
+    requires { ⌜ at + 8 ≤ length (now bytes) ⌝ }
+    ensures { λ r. ⌜ r ≡ beforeFeed (take 8 (drop at (now (bytes .entry)))) ⌝ }
 {
-    let mut i = start;
-    while bytes.len() - i >= 16 {
-        if feeds_at(bytes, i) > 0 {
-            return i;
-        }
-        i += 16;
-    }
-    i
+    u64::trailing_zeros(feed_bits(bytes, at)) as usize / 8
+}
+
+// How many of eight bytes and of those behind them stand before the first line feed, by how many of each do.
+fn before_both(eight: usize, behind: usize) -> usize
+    requires { ⌜ behind ≤ 16 ⌝ }
+    ensures { λ r. ⌜ r ≡ cond (ltb eight 8) eight (8 + behind) ⌝ }
+{
+    if eight < 8 { eight } else { 8 + behind }
 }
 
 // Where the line that begins at a place ends: at the first line feed from there on, or else with the bytes.
@@ -61,7 +51,17 @@ pub(crate) fn end_from(bytes: &[u8], start: usize) -> usize
     requires { ⌜ start ≤ length (now bytes) ⌝ }
     ensures { λ r. ⌜ EndsAt (now (bytes .entry)) start r ⌝ }
 {
-    let mut i = quiet_from(bytes, start);
+    let mut i = start;
+    // As many bytes as most lines have are looked at together, so that nothing waits for how long a line is.
+    while bytes.len() - i >= 24 {
+        let last = before_feed(bytes, i + 16);
+        let later = before_both(before_feed(bytes, i + 8), last);
+        let before = before_both(before_feed(bytes, i), later);
+        if before < 24 {
+            return i + before;
+        }
+        i += 24;
+    }
     while i < bytes.len() {
         if bytes[i] == b'\n' {
             return i;

@@ -54,11 +54,11 @@ pub fn short_number_of(text: &[u8], high: u64) -> u64
     if count > 2 {
         return 0;
     }
-    let first = text[0];
-    if first < b'1' {
+    let leading = text[0];
+    if leading < b'1' {
         return 0;
     }
-    if first > b'9' {
+    if leading > b'9' {
         return 0;
     }
     let last = text[count - 1];
@@ -68,7 +68,7 @@ pub fn short_number_of(text: &[u8], high: u64) -> u64
     if last > b'9' {
         return 0;
     }
-    let tens = if count == 2 { first - b'0' } else { 0 };
+    let tens = if count == 2 { leading - b'0' } else { 0 };
     let n = 10 * tens as u64 + (last - b'0') as u64;
     if n > high {
         return 0;

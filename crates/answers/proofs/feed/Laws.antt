@@ -1,20 +1,20 @@
 -- Line feeds counted, and bytes without one.
-use mathlib.Core.Bool.{false, cond}
+use mathlib.Core.Bool.{Bool, true, false, cond}
 use mathlib.Core.List.{List, [], _∷_, _++_}
 use mathlib.Core.Logic.{inl, inr}
 use mathlib.Core.Path.{_≡_, refl}
-use Prim.Native.Nat.{ℕ, suc, _+_, _-_, _<_, _≤_}
+use Prim.Native.Nat.{ℕ, zero, suc, _+_, _-_, _<_, _≤_}
 use native.Mathlib.Numerals.{add-one}
 use native.Mathlib.Omega.{arith}
-use lib.Dec.{eqb}
-use lib.ListN.{length, take, drop, getD}
-use lib.Seq.{take-add, drop-cons, drop-drop}
-use borrow.Author.Tests.{ne-eqb}
+use lib.Dec.{eqb, ltb, leb·suc-suc}
+use lib.ListN.{length, take, drop, getD, length-drop}
+use lib.Seq.{length-take-le, take-add, drop-cons, drop-drop}
+use borrow.Author.Tests.{eqb-true, eqb-false, ne-eqb, lt-ltb}
 use Rattle.words.proofs.text.Laws.{either, has-append}
 use Rattle.words.specs.Text.{has}
 use Rattle.dating.specs.Answer.{lineFeed}
 use Rattle.answers.specs.Lines.{endedLines}
-use Rattle.answers.specs.Steps.{feeds, between, Quiet}
+use Rattle.answers.specs.Steps.{feeds, beforeFeed, between, Quiet}
 
 -- ---- line feeds
 pub feeds-append : (a b : List ℕ) → feeds (a ++ b) ≡ feeds a + feeds b
@@ -53,27 +53,6 @@ no-feeds (c ∷ s) z =
 next : (s : List ℕ) (i : ℕ) → i < length s → drop i s ≡ getD s i 0 ∷ drop (i + 1) s
 next s i more = rw add-one (drop-cons s i 0 more)
 
--- four bytes and those behind them
-pub four-feeds : (s : List ℕ) (i k n : ℕ) → i + k + 4 ≤ length s
-    → feeds (take (suc (suc (suc (suc n)))) (drop (i + k) s))
-    ≡ feeds (getD s (i + k) 0 ∷ getD s (i + (k + 1)) 0 ∷ getD s (i + (k + 2)) 0 ∷ getD s (i + (k + 3)) 0 ∷ []) + feeds (take n (drop (i + (k + 4)) s))
-unfolding feeds
-four-feeds s i k n fits =
-    let second : i + (k + 1) ≡ i + k + 1 = omega arith in
-    let third : i + (k + 2) ≡ i + k + 1 + 1 = omega arith in
-    let fourth : i + (k + 3) ≡ i + k + 1 + 1 + 1 = omega arith in
-    let behind : i + (k + 4) ≡ i + k + 1 + 1 + 1 + 1 = omega arith in
-    rw (
-      second,
-      third,
-      fourth,
-      behind,
-      next s (i + k) (omega arith),
-      next s (i + k + 1) (omega arith),
-      next s (i + k + 1 + 1) (omega arith),
-      next s (i + k + 1 + 1 + 1) (omega arith),
-    ) (omega arith)
-
 pub one-feed : (s : List ℕ) (i : ℕ) → i < length s → feeds (take 1 (drop i s)) ≡ cond (eqb (getD s i 0) lineFeed) 1 0
 unfolding feeds
 one-feed s i more = rw (next s i more) (omega arith)
@@ -100,3 +79,88 @@ module _ {s : List ℕ} {i j : ℕ} (q : Quiet s i j) where
 
   pub quiet-byte : j < length s → (getD s j 0 ≡ lineFeed → ⊥) → Quiet s i (j + 1)
   quiet-byte more other = quiet-on 1 (omega arith) (rw (one-feed s j more, ne-eqb (getD s j 0) lineFeed other))
+
+-- ---- bytes before a line feed
+-- r of the n bytes of s from the place j on stand before a line feed, and so do those from i up to j
+pub record Before (s : List ℕ) (i j n r : ℕ) : Type 0 where
+  pub quiet : Quiet s i (j + r)
+  pub most : r ≤ n
+  pub feed : r < n → getD s (j + r) 0 ≡ lineFeed
+
+pub before : (s : List ℕ) (i j n : ℕ) → Quiet s i j → j + n ≤ length s → Before s i j n (beforeFeed (take n (drop j s)))
+unfolding beforeFeed
+before s i j zero q fits = let same : j + 0 ≡ j = omega arith in record { quiet = rw same q; most = omega arith; feed = λ h. absurd (omega arith) }
+before s i j (suc n) q fits =
+    elim (either (eqb (getD s j 0) lineFeed)) [
+      | inl e ↦
+          let same : j + 0 ≡ j = omega arith in
+          rw (next s j (omega arith), e) (record { quiet = rw same q; most = omega arith; feed = λ h. rw same (eqb-true (getD s j 0) lineFeed e) })
+      | inr e ↦
+          let later = before s i (j + 1) n (quiet-byte q (omega arith) (eqb-false (getD s j 0) lineFeed e)) (omega arith) in
+          let r = beforeFeed (take n (drop (j + 1) s)) in
+          let place : j + suc r ≡ j + 1 + r = omega arith in
+          rw (next s j (omega arith), e) (record {
+            quiet = rw place (later .quiet);
+            most = omega (arith, later .most);
+            feed = λ h. rw place (later .feed (omega arith));
+          })
+    ]
+
+pub before-most : (n : ℕ) (s : List ℕ) → beforeFeed (take n s) ≤ n
+unfolding beforeFeed
+before-most zero s = omega arith
+before-most (suc n) [] = omega arith
+before-most (suc n) (c ∷ s) =
+    elim (either (eqb c lineFeed)) [
+      | inl e ↦ rw e (omega arith)
+      | inr e ↦ rw e (omega (arith, before-most n s))
+    ]
+
+before-append : (a b : List ℕ) → beforeFeed (a ++ b) ≡ cond (ltb (beforeFeed a) (length a)) (beforeFeed a) (length a + beforeFeed b)
+unfolding beforeFeed
+before-append [] b = omega arith
+before-append (c ∷ a) b =
+    elim (either (eqb c lineFeed)) [
+      | inl e ↦ rw (e, lt-ltb 0 (suc (length a)) (omega arith))
+      | inr e ↦ rw (e, leb·suc-suc (suc (beforeFeed a)) (length a), before-append a b) (one-more (ltb (beforeFeed a) (length a)) (beforeFeed a) (beforeFeed b))
+    ]
+  where
+    one-more : (t : Bool) (x y : ℕ) → suc (cond t x (length a + y)) ≡ cond t (suc x) (suc (length a) + y)
+    one-more true x y = refl
+    one-more false x y = omega arith
+
+-- eight bytes, and those behind them
+pub before-eight : (s : List ℕ) (i n : ℕ) → i + 8 ≤ length s
+    → let eight = beforeFeed (take 8 (drop i s)) in
+    beforeFeed (take (8 + n) (drop i s)) ≡ cond (ltb eight 8) eight (8 + beforeFeed (take n (drop (i + 8) s)))
+before-eight s i n fits =
+    let size = length-take-le 8 (drop i s) (omega (arith, length-drop i s)) in
+    rw (take-add 8 n (drop i s), drop-drop 8 i s, before-append (take 8 (drop i s)) (take n (drop (i + 8) s)), size)
+
+-- ---- eight bytes written out
+pub eight : (s : List ℕ) (i : ℕ) → i + 8 ≤ length s
+    → take 8 (drop i s)
+    ≡ getD s i 0 ∷ getD s (i + 1) 0 ∷ getD s (i + 2) 0 ∷ getD s (i + 3) 0 ∷ getD s (i + 4) 0 ∷ getD s (i + 5) 0 ∷ getD s (i + 6) 0 ∷ getD s (i + 7) 0 ∷ []
+eight s i fits =
+    let third : i + 2 ≡ i + 1 + 1 = omega arith in
+    let fourth : i + 3 ≡ i + 1 + 1 + 1 = omega arith in
+    let fifth : i + 4 ≡ i + 1 + 1 + 1 + 1 = omega arith in
+    let sixth : i + 5 ≡ i + 1 + 1 + 1 + 1 + 1 = omega arith in
+    let seventh : i + 6 ≡ i + 1 + 1 + 1 + 1 + 1 + 1 = omega arith in
+    let eighth : i + 7 ≡ i + 1 + 1 + 1 + 1 + 1 + 1 + 1 = omega arith in
+    rw (
+      third,
+      fourth,
+      fifth,
+      sixth,
+      seventh,
+      eighth,
+      next s i (omega arith),
+      next s (i + 1) (omega arith),
+      next s (i + 1 + 1) (omega arith),
+      next s (i + 1 + 1 + 1) (omega arith),
+      next s (i + 1 + 1 + 1 + 1) (omega arith),
+      next s (i + 1 + 1 + 1 + 1 + 1) (omega arith),
+      next s (i + 1 + 1 + 1 + 1 + 1 + 1) (omega arith),
+      next s (i + 1 + 1 + 1 + 1 + 1 + 1 + 1) (omega arith),
+    )

@@ -31,15 +31,15 @@ sub-loop c = c .loop .inv .inside
 feeds-at-requires : tie.Need-feeds-at-requires Inv-loop μ-loop Inv-loop2 μ-loop2
 feeds-at-requires c κs = omega (arith, c .before .loop .inv .inside, c .loop-test .taken)
 
--- sixteen bytes more are counted
-sixteen : (c : tie.After-feeds-at Inv-loop μ-loop Inv-loop2 μ-loop2)
-    → let l = c .before .before .loop in Counted (c .before .before .before .before .args .page .now) (l .count + c .feeds-at .result) (l .i + 16)
-sixteen c =
+-- eight bytes more are counted
+eight : (c : tie.After-feeds-at Inv-loop μ-loop Inv-loop2 μ-loop2)
+    → let l = c .before .before .loop in Counted (c .before .before .before .before .args .page .now) (l .count + c .feeds-at .result) (l .i + 8)
+eight c =
     let l = c .before .before .loop in
-    rw (c .feeds-at .ensures) (count-on (l .inv) 16 (omega (arith, l .inv .inside, c .before .loop-test .taken)))
+    rw (c .feeds-at .ensures) (count-on (l .inv) 8 (omega (arith, l .inv .inside, c .before .loop-test .taken)))
 
 add-count : tie.Need-add-count Inv-loop μ-loop Inv-loop2 μ-loop2
-add-count c = omega (arith, count-few (sixteen c), sixteen c .inside)
+add-count c = omega (arith, count-few (eight c), eight c .inside)
 
 add-i : tie.Need-add-i Inv-loop μ-loop Inv-loop2 μ-loop2
 add-i c = omega (arith, c .before .before .loop .inv .inside, c .before .loop-test .taken)
@@ -48,7 +48,7 @@ loop-less : tie.Need-loop-less Inv-loop μ-loop Inv-loop2 μ-loop2
 loop-less c = omega (arith, c .before .before .loop .inv .inside, c .before .loop-test .taken)
 
 loop-again : tie.Need-loop-again Inv-loop μ-loop Inv-loop2 μ-loop2
-loop-again c = sixteen c
+loop-again c = eight c
 
 loop2-holds : tie.Need-loop2-holds Inv-loop μ-loop Inv-loop2 μ-loop2
 loop2-holds c = c .before .loop .inv

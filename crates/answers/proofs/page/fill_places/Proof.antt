@@ -19,25 +19,26 @@ loop-holds c = inl (at-first _ _ _)
 
 add-place : tie.Need-add-place Inv-loop μ-loop
 add-place c =
-    let l = c .before .before .before .before .before .before in
-    let line = c .before .before .before .before in
-    let some = c .before .before .before .before .before .loop-test .taken in
-    omega (arith, line-room (l .before .before .before .pre) (l .loop .inv) some _ (line .line-at .ensures .end))
+    let l = c .before .before .before .before .before .before .before .before in
+    let some = c .before .before .before .before .before .before .before .loop-test .taken in
+    let ends = c .before .before .before .before .before .before .end-from .ensures in
+    omega (arith, line-room (l .before .before .before .pre) (l .loop .inv) some _ ends)
 
 add-start : tie.Need-add-start Inv-loop μ-loop
-add-start c = omega (arith, c .before .before .before .before .before .line-at .ensures .end .quiet .inside)
+add-start c = omega (arith, c .before .before .before .before .before .before .end-from .ensures .quiet .inside)
 
 loop-less : tie.Need-loop-less Inv-loop μ-loop
 loop-less c =
-    let quiet = c .before .before .before .before .before .line-at .ensures .end .quiet in
-    omega (arith, quiet .from, c .before .before .before .before .before .before .loop-test .taken)
+    let quiet = c .before .before .before .before .before .before .end-from .ensures .quiet in
+    omega (arith, quiet .from, c .before .before .before .before .before .before .before .loop-test .taken)
 
 loop-again : tie.Need-loop-again Inv-loop μ-loop
 loop-again c =
-    let l = c .before .before .before .before .before .before .before in
-    let line = c .before .before .before .before .before .line-at .ensures in
-    let some = c .before .before .before .before .before .before .loop-test .taken in
-    fill-line (l .before .before .before .pre) (l .loop .inv) some _ (line .end) _ _ (line .told) (c .before .before .before .put-number .ensures)
+    let l = c .before .before .before .before .before .before .before .before in
+    let some = c .before .before .before .before .before .before .before .loop-test .taken in
+    let ends = c .before .before .before .before .before .before .end-from .ensures in
+    let told = c .before .before .before .number-of-line .ensures in
+    fill-line (l .before .before .before .pre) (l .loop .inv) some _ ends _ _ told (c .before .before .put-number .ensures)
 
 same-length : tie.Need-same-length Inv-loop μ-loop
 same-length c = filling-length (c .before .loop .inv)
@@ -52,7 +53,7 @@ fill-places-spec =
     Inv-loop
     μ-loop
     loop-holds
-    (λ c κs. search needs) (λ c κs. search needs)
+    (λ c κs. search needs) (λ c. search needs) (λ c. search needs) (λ c. search needs) (λ c κs. search needs) (λ c κs. search needs)
     add-place
     add-start
     loop-less

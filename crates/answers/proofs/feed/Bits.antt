@@ -1,0 +1,127 @@
+-- Line feeds told by the bits of a number: each operation acts on every byte of it apart, so what it does to one byte says what it does to all.
+use mathlib.Core.Bool.{Bool, cond}
+use mathlib.Core.List.{List, [], _∷_}
+use mathlib.Core.Logic.{inl, inr}
+use mathlib.Core.Path.{_≡_, refl}
+use Prim.Native.Nat.{ℕ, zero, suc, _+_, _-_, _*_, _/_, _%_, _^_, _<_, _≤_}
+use native.Mathlib.Nat.{mul-one}
+use native.Mathlib.Omega.{arith}
+use lib.Bits.{bitAnd, bitOr, bitXor, and-block, or-block, xor-block, and-le-r, or-lt, xor-lt, shifted-half, shifted-even}
+use lib.Count.{ones, onesIn, trailingZeros, ones-cat}
+use lib.Dec.{eqb}
+use lib.ListN.{length}
+use borrow.Author.Tests.{eqb-true}
+use Rattle.calendar.proofs.Each.{each, below, is-true}
+use Rattle.words.proofs.text.Laws.{either}
+use Rattle.dating.specs.Answer.{lineFeed}
+use Rattle.answers.specs.Steps.{feeds, beforeFeed, feedBits}
+
+-- bytes as digits of a number, the first the lowest
+unfoldable pub packed : List ℕ → ℕ
+packed [] = 0
+packed (c ∷ s) = packed s * 256 + c
+
+-- n bytes that are all b
+unfoldable pub times : ℕ → ℕ → ℕ
+times zero b = 0
+times (suc n) b = times n b * 256 + b
+
+abbrev pub AllBytes : List ℕ → Type 0
+AllBytes [] = Unit
+AllBytes (c ∷ s) = (c < 256) × AllBytes s
+
+-- what the code works out of n bytes that are packed
+abbrev other : ℕ → ℕ → ℕ
+other n x = bitXor x (times n lineFeed)
+
+abbrev some : ℕ → ℕ → ℕ
+some n x = bitOr (bitAnd (other n x) (times n 127) + times n 127) (other n x)
+
+abbrev pub bits : ℕ → ℕ → ℕ
+bits n x = bitAnd (times n 255 - some n x) (times n 128)
+
+-- ---- one byte
+abbrev lowSome : ℕ → ℕ
+lowSome c = bitAnd (bitXor c lineFeed) 127 + 127
+
+abbrev someOf : ℕ → ℕ
+someOf c = bitOr (lowSome c) (bitXor c lineFeed)
+
+bit : (c : ℕ) → c < 256 → bitAnd (255 - someOf c) 128 ≡ cond (eqb c lineFeed) 128 0
+bit c h =
+    let test : ℕ → Bool = λ c. eqb (bitAnd (255 - someOf c) 128) (cond (eqb c lineFeed) 128 0) in
+    eqb-true (bitAnd (255 - someOf c) 128) (cond (eqb c lineFeed) 128 0) (is-true (test c) (below test 256 tt c h))
+
+-- ---- one byte more
+module _ (n x c : ℕ) (h : c < 256) where
+  xor-small : bitXor c lineFeed < 256
+  xor-small = xor-lt 8 c lineFeed h (omega arith)
+
+  low-small : lowSome c < 256
+  low-small = omega (arith, and-le-r (bitXor c lineFeed) 127)
+
+  some-small : someOf c < 256
+  some-small = or-lt 8 (lowSome c) (bitXor c lineFeed) low-small xor-small
+
+  other-on : other (suc n) (x * 256 + c) ≡ other n x * 256 + bitXor c lineFeed
+  unfolding times
+  other-on = xor-block 8 x (times n lineFeed) c lineFeed h (omega arith)
+
+  some-on : some (suc n) (x * 256 + c) ≡ some n x * 256 + someOf c
+  unfolding times
+  some-on =
+      let o = other n x in
+      let k = times n 127 in
+      let both = and-block 8 o k (bitXor c lineFeed) 127 xor-small (omega arith) in
+      let sum : bitAnd o k * 256 + bitAnd (bitXor c lineFeed) 127 + (k * 256 + 127) ≡ (bitAnd o k + k) * 256 + lowSome c = omega arith in
+      rw (other-on, both, sum) (or-block 8 (bitAnd o k + k) o (lowSome c) (bitXor c lineFeed) low-small xor-small)
+
+  bits-on : some n x ≤ times n 255 → bits (suc n) (x * 256 + c) ≡ bits n x * 256 + cond (eqb c lineFeed) 128 0
+  unfolding times
+  bits-on small =
+      let left : times n 255 * 256 + 255 - (some n x * 256 + someOf c) ≡ (times n 255 - some n x) * 256 + (255 - someOf c) = omega (arith, some-small) in
+      rw (some-on, left, ← bit c h) (and-block 8 (times n 255 - some n x) (times n 128) (255 - someOf c) 128 (omega arith) (omega arith))
+
+all-small : (s : List ℕ) → AllBytes s → some (length s) (packed s) ≤ times (length s) 255
+unfolding packed times
+all-small [] b = omega arith
+all-small (c ∷ s) b = rw (some-on (length s) (packed s) c (b .0)) (omega (arith, all-small s (b .1), some-small (length s) (packed s) c (b .0)))
+
+-- so line feeds alone are 128
+pub bits-of-bytes : (s : List ℕ) → AllBytes s → bits (length s) (packed s) ≡ feedBits s
+unfolding packed times feedBits
+bits-of-bytes [] b = refl
+bits-of-bytes (c ∷ s) b = rw (bits-on (length s) (packed s) c (b .0) (all-small s (b .1)), bits-of-bytes s (b .1))
+
+-- ---- how many there are, and where the first is
+pub count-bits : (s : List ℕ) → ones (feedBits s) ≡ feeds s
+unfolding feedBits feeds ones onesIn
+count-bits [] = refl
+count-bits (c ∷ s) =
+    elim (either (eqb c lineFeed)) [
+      | inl e ↦ rw (e, ones-cat 8 (feedBits s) 128 (omega arith)) (omega (arith, count-bits s))
+      | inr e ↦ rw (e, ones-cat 8 (feedBits s) 0 (omega arith)) (omega (arith, count-bits s))
+    ]
+
+trailing-shift : (k m a : ℕ) → trailingZeros (k + m) (a * 2 ^ k) ≡ k + trailingZeros m a
+unfolding trailingZeros
+trailing-shift zero m a = let same : 0 + m ≡ m = omega arith in rw (same, mul-one a) (omega arith)
+trailing-shift (suc k) m a =
+    let size : suc k + m ≡ suc (k + m) = omega arith in rw (size, shifted-even a k, shifted-half a k, trailing-shift k m a) (omega arith)
+
+pub first-bit : (s : List ℕ) → trailingZeros (length s * 8) (feedBits s) / 8 ≡ beforeFeed s
+unfolding feedBits beforeFeed trailingZeros
+first-bit [] = refl
+first-bit (c ∷ s) =
+    let x = feedBits s in
+    elim (either (eqb c lineFeed)) [
+      | inl e ↦
+          let n : suc (length s) * 8 ≡ 7 + suc (length s * 8) = omega arith in
+          let y : x * 256 + 128 ≡ (x * 2 + 1) * 2 ^ 7 = omega arith in
+          let odd : (x * 2 + 1) % 2 ≡ 1 = omega arith in
+          rw (e, n, y, trailing-shift 7 (suc (length s * 8)) (x * 2 + 1), odd)
+      | inr e ↦
+          let n : suc (length s) * 8 ≡ 8 + length s * 8 = omega arith in
+          let y : x * 256 + 0 ≡ x * 2 ^ 8 = omega arith in
+          rw (e, n, y, trailing-shift 8 (length s * 8) x) (omega (arith, first-bit s))
+    ]
