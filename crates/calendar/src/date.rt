@@ -99,7 +99,14 @@ fn day_number(named: NamedYear, month: u64, day: u64) -> u64
     requires { ⌜ (served (named .style) (named .year) ≡ true) × (isDate (named .style) (named .year) month day ≡ true) ⌝ }
     ensures { λ r. ⌜ r ≡ dayNumber (named .style) (named .year) month day ⌝ }
 {
-    new_year(named) + days_before(is_leap(named), month) + (day - 1)
+    let style = named.style;
+    let late = if month > 2 { 1 } else { 0 };
+    let new_year = new_year(NamedYear {
+        style,
+        year: named.year + late,
+    });
+    // Behind February a day counts back from the next new year, so that nothing waits for whether the year is leap.
+    new_year + (979 * month - 966) / 32 + (day - 1) - 367 * late
 }
 
 // The day of a date of a year; its style comes as a truth value, which is handed on in a register and not in memory.

@@ -1,4 +1,5 @@
 // The two styles of dating.
+use crate::range::is_between;
 use crate::refusal::Refusal;
 ghost use mathlib.Core.Path.{_≡_};
 ghost use Rattle.calendar.specs.Style.{styleLetter, styleBy, styleOf};
@@ -15,17 +16,14 @@ pub enum StyleAnswer {
     NoStyle(Refusal),
 }
 
-// The style that has a number.
+// The style that has a number; nothing waits for which of the two it is.
 pub fn style_of(number: u64) -> StyleAnswer
     ensures { λ r. ⌜ r ≡ styleOf number ⌝ }
 {
-    if number == 1 {
-        return StyleAnswer::Known(Style::Julian);
+    if !is_between(1, number, 2) {
+        return StyleAnswer::NoStyle(Refusal::Name);
     }
-    if number == 2 {
-        return StyleAnswer::Known(Style::Gregorian);
-    }
-    StyleAnswer::NoStyle(Refusal::Name)
+    StyleAnswer::Known(style_by(number == 2))
 }
 
 // Whether a style is the Gregorian one.

@@ -63,10 +63,16 @@ pub(crate) fn new_year(named: NamedYear) -> u64
 {
     let style = named.style;
     let n = named.year - 1;
-    match style {
-        Style::Julian => J_NEW_YEAR + 365 * n + n / 4,
-        Style::Gregorian => G_NEW_YEAR + 365 * n + n / 4 + n / 400 - n / 100,
-    }
+    let first = match style {
+        Style::Julian => J_NEW_YEAR,
+        Style::Gregorian => G_NEW_YEAR,
+    };
+    // The hundreds of years, of which G leaves out a leap day, but for each fourth.
+    let hundreds = match style {
+        Style::Julian => 0,
+        Style::Gregorian => n / 100,
+    };
+    first + 365 * n + n / 4 + hundreds / 4 - hundreds
 }
 
 // An estimate of the year that holds a day of the span: that year or the one before.

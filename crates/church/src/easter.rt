@@ -16,7 +16,7 @@ ghost use Rattle.calendar.specs.Span.{earliest, latest};
 ghost use Rattle.calendar.specs.Weekday.{sunday, firstWeekday};
 ghost use Rattle.calendar.specs.declared.span.DayAnswer.the-variants.{Day, NoDay};
 ghost use Rattle.calendar.specs.declared.weekday.Side.the-variants.{After};
-ghost use Rattle.church.specs.Easter.{limit, march, easter, reformYear, easterTests};
+ghost use Rattle.church.specs.Easter.{limit, march, easter, easterTests};
 
 // Sunday's number.
 pub(crate) const SUNDAY: u64 = 7;
@@ -28,20 +28,12 @@ pub(crate) fn limit_of_year(named: NamedYear) -> u64
     let style = named.style;
     let golden_number = golden_number(named);
     let b = 11 * golden_number % 30;
+    // Both are worked out, so that nothing waits for the style.
+    let julian = julian_limit(b);
+    let gregorian = gregorian_limit(golden_number, b, named.year / 100);
     match style {
-        Style::Julian => julian_limit(b),
-        Style::Gregorian => gregorian_limit(golden_number, b, named.year / 100),
-    }
-}
-
-// Whether it is the year in which G begins.
-fn is_reform_year(named: NamedYear) -> bool
-    ensures { λ r. ⌜ r ≡ reformYear (named .style) (named .year) ⌝ }
-{
-    let style = named.style;
-    match style {
-        Style::Julian => false,
-        Style::Gregorian => named.year == 1582,
+        Style::Julian => julian,
+        Style::Gregorian => gregorian,
     }
 }
 
@@ -49,10 +41,11 @@ fn is_reform_year(named: NamedYear) -> bool
 pub(crate) fn equinox(named: NamedYear) -> DayAnswer
     ensures { λ r. ⌜ r ≡ checked NoDay (Day (march (named .style) (named .year) 21)) (easterTests named) ⌝ }
 {
-    if is_reform_year(named) {
-        return DayAnswer::NoDay(Refusal::Year);
+    match day_in_year(named, 3, 21) {
+        DayAnswer::Day(day) => DayAnswer::Day(day),
+        // 1582 of G is served, but its 21 March lies before the span.
+        DayAnswer::NoDay(_) => DayAnswer::NoDay(Refusal::Year),
     }
-    day_in_year(named, 3, 21)
 }
 
 // The first Sunday after a limit of the year whose 21 March is given.

@@ -96,8 +96,8 @@ fn fixed_in_year(named: NamedYear, feast: u64) -> DayAnswer
 {
     let i = (feast - 24) as usize;
     let date = FIXED_DATES[i] as u64;
-    let in_leap_years = date / 512;
-    let later = if is_leap(named) { in_leap_years } else { 0 };
+    // Whether the year is leap is asked only for a date that hangs on it.
+    let later = if date >= 512 && is_leap(named) { 1 } else { 0 };
     day_in_year(named, date / 32 % 16, date % 32 + later)
 }
 

@@ -1,13 +1,13 @@
 -- Dates as facts on numbers, for all years from 1 on: where a date's day lies, and which day comes next.
 use mathlib.Core.Bool.{Bool, true, false, cond, and-eq-true-iff}
 use mathlib.Core.Path.{_≡_, refl}
-use Prim.Native.Nat.{ℕ, zero, suc, pred, _+_, _-_, _≤_, _<_}
+use Prim.Native.Nat.{ℕ, zero, suc, pred, _+_, _-_, _*_, _/_, _≤_, _<_}
 use native.Mathlib.Nat.{add-zero}
 use native.Mathlib.Numerals.{add-one}
 use native.Mathlib.Omega.{arith}
 use lib.Dec.{ltb}
 use borrow.Author.Tests.{ltb-true, ltb-false}
-use Rattle.calendar.proofs.date.Months.{year-days, month-up, months-rise, months-small, one-month, month-has-days}
+use Rattle.calendar.proofs.date.Months.{month-offset, year-days, month-up, months-rise, one-month, month-has-days}
 use Rattle.calendar.proofs.range.Laws.{range, in-range}
 use Rattle.calendar.proofs.year.Laws.{year-up, one-year}
 use Rattle.calendar.specs.Date.{monthLength, daysOfMonths, MonthOf, isDate, dayNumber, nextDate}
@@ -36,12 +36,6 @@ pub bounds-date : (s : Style) (y m d : ℕ) → DateBounds (leap s y) m d → is
 unfolding isDate
 bounds-date s y m d b =
     rw (in-range 1 m 12 (b .month-low) (b .month-high), in-range 1 d (monthLength (leap s y) m) (b .day-low) (b .day-high))
-
-pub date-small : (b : Bool) (m d : ℕ) → DateBounds b m d → (daysOfMonths b (pred m) ≤ 366) × (d ≤ 366)
-date-small b m d h =
-    let whole = months-small b m (h .month-high) in
-    let parts = month-up b m (h .month-low) in
-    (omega arith, omega arith)
 
 -- n is the day of a date
 pub record Dated (s : Style) (n y m d : ℕ) : Type 0 where
@@ -75,6 +69,13 @@ year-of s n y m d h =
             year-up s y (h .year),
           );
     }
+
+-- so the day of a date is counted from the new year, and behind February from the next
+pub day-by-offset : (s : Style) (y m d : ℕ) (t : Bool) → 1 ≤ y → DateBounds (leap s y) m d → ltb 2 m ≡ t
+    → newYear s (y + cond t 1 0) + (979 * m - 966) / 32 + (d - 1) ≡ dayNumber s y m d + 367 * cond t 1 0
+unfolding dayNumber
+day-by-offset s y m d true h b e = rw (add-one y) (omega (arith, year-up s y h, month-offset (leap s y) true m (b .month-high) e))
+day-by-offset s y m d false h b e = rw (add-zero y) (omega (arith, month-offset (leap s y) false m (b .month-high) e))
 
 -- a day has one date only
 pub one-date : (s : Style) (n y m d y′ m′ d′ : ℕ) → Dated s n y m d → Dated s n y′ m′ d′ → On y m d ≡ On y′ m′ d′

@@ -1,7 +1,7 @@
 -- Months: their lengths, and the one month that holds a day of a year.
 use mathlib.Core.Bool.{Bool, true, false, _&&_, cond}
 use mathlib.Core.Path.{_≡_, refl}
-use Prim.Native.Nat.{ℕ, zero, suc, pred, _+_, _/_, _≤_, _<_}
+use Prim.Native.Nat.{ℕ, zero, suc, pred, _+_, _-_, _*_, _/_, _≤_, _<_}
 use native.Mathlib.Nat.{le-add-right}
 use native.Mathlib.Omega.{arith}
 use lib.Dec.{T, leb, ltb, eqb, leb→le, ltb→lt, eqb→eq}
@@ -16,6 +16,15 @@ leap-test b k = eqb (daysOfMonths b k) (daysOfMonths false k + cond (b && ltb 1 
 pub leap-day : (b t : Bool) (k : ℕ) → k < 12 → ltb 1 k ≡ t → daysOfMonths b k ≡ daysOfMonths false k + cond (b && t) 1 0
 unfolding leap-test daysOfMonths
 leap-day b t k h e = rw (← e) (eqb→eq _ _ (of-both leap-test 12 tt b k h))
+
+offset-test : Bool → ℕ → Bool
+offset-test b m = eqb (daysOfMonths b (pred m) + cond (ltb 2 m) 367 0) ((979 * m - 966) / 32 + cond (ltb 2 m) (cond b 366 365) 0)
+
+-- a month begins so many days after the new year, and behind February so many less 367 after the next
+pub month-offset : (b t : Bool) (m : ℕ) → m ≤ 12 → ltb 2 m ≡ t
+    → daysOfMonths b (pred m) + cond t 367 0 ≡ (979 * m - 966) / 32 + cond t (cond b 366 365) 0
+unfolding offset-test daysOfMonths
+month-offset b t m h e = rw (← e) (eqb→eq _ _ (of-both offset-test 13 tt b m (omega arith)))
 
 some-test : Bool → ℕ → Bool
 some-test b k = leb 28 (monthLength b (suc k))

@@ -62,8 +62,8 @@ in-span-from s first y k n from to start low high =
 pub after-start : (s : Style) (n : ℕ) → inSpan s n ≡ true → newYear s 1 ≤ n
 after-start s n e = omega (arith, span-start s, span-range s n e, new-year-rises s 1 (firstYear s) (ends s .0))
 
-pub new-year-small : (s : Style) (y : ℕ) → served s y ≡ true → newYear s y ≤ suc latest
-new-year-small s y e = omega (arith, ends s, span-end s, new-year-rises s y 10000 (omega (arith, served-small s y e)))
+pub new-year-small : (s : Style) (y : ℕ) → y ≤ 10000 → newYear s y ≤ suc latest
+new-year-small s y h = omega (arith, ends s, span-end s, new-year-rises s y 10000 h)
 
 -- the year of a day of the span is served
 pub year-served : (s : Style) (n y : ℕ) → inSpan s n ≡ true → YearOf s n y → served s y ≡ true

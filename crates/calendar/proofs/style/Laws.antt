@@ -3,11 +3,14 @@ use mathlib.Core.Bool.{Bool, true, false, cond, true≢false}
 use mathlib.Core.List.{List, [], _∷_}
 use mathlib.Core.Logic.{_↔_}
 use mathlib.Core.Path.{_≡_, refl, sym}
-use Prim.Native.Nat.{ℕ}
+use Prim.Native.Nat.{ℕ, zero, suc}
+use native.Mathlib.Omega.{arith}
 use lib.Dec.{T, eqb}
+use borrow.Author.Tests.{ne-eqb, le-leb, lt-leb}
 use Rattle.calendar.proofs.refusal.Laws.{AllPass, rising, given, given-of}
+use Rattle.calendar.specs.Range.{between}
 use Rattle.calendar.specs.Refusal.{refusalNumber, Test, _unless_, checked, Holds, Lowest}
-use Rattle.calendar.specs.Style.{styleNumber, styleOf, inStyle, byNumber}
+use Rattle.calendar.specs.Style.{styleNumber, styleBy, styleOf, inStyle, byNumber}
 use Rattle.calendar.specs.declared.refusal.Refusal.the-variants.{Name}
 use Rattle.calendar.specs.declared.refusal.Refusal.{Refusal}
 use Rattle.calendar.specs.declared.style.Style.the-variants.{Julian, Gregorian}
@@ -20,6 +23,16 @@ pub by-number : (s : Style) → styleOf (styleNumber s) ≡ Known s
 unfolding styleOf
 by-number Julian = refl
 by-number Gregorian = refl
+
+-- the numbers of styles are a range
+pub by-range : (n : ℕ) → styleOf n ≡ cond (between 1 n 2) (Known (styleBy (eqb n 2))) (NoStyle Name)
+unfolding styleOf between
+by-range zero = refl
+by-range (suc zero) = refl
+by-range (suc (suc zero)) = refl
+by-range (suc (suc (suc n))) =
+    let k = suc (suc (suc n)) in
+    rw (ne-eqb k 1 (λ e. omega arith), ne-eqb k 2 (λ e. omega arith), le-leb 1 k (omega arith), lt-leb k 2 (omega arith))
 
 -- what holds in both styles, and where there is none, holds whatever the number
 pub by-cases {ℓ} : (P : StyleAnswer → Type ℓ) → ((s : Style) → P (Known s)) → P (NoStyle Name) → (k : ℕ) → P (styleOf k)

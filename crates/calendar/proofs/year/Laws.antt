@@ -40,13 +40,22 @@ fewer j k y true false h p q = omega arith
 fewer j k y false true h p q = absurd (eqb-false (y % j) 0 p (h (eqb-true (y % k) 0 q)))
 fewer j k y false false h p q = omega arith
 
+-- the hundreds of years, of which G leaves out a leap day, but for each fourth
+abbrev pub hundreds : Style → ℕ → ℕ
+hundreds Julian n = 0
+hundreds Gregorian n = n / 100
+
 -- the days of the years 1 to n
 abbrev pub closed : Style → ℕ → ℕ
-closed Julian n = 365 * n + n / 4
-closed Gregorian n = 365 * n + n / 4 + n / 400 - n / 100
+closed s n = 365 * n + n / 4 + hundreds s n / 4 - hundreds s n
 
-pub centuries : (n : ℕ) → n / 100 ≤ n / 4
-centuries n = omega arith
+-- what is chosen by style is small
+pub choices-small : (s : Style) (n : ℕ) → (firstNewYear s ≤ 1721426) × (hundreds s n ≤ n / 4)
+choices-small Julian n = omega arith
+choices-small Gregorian n = omega arith
+
+fourth-hundreds : (n : ℕ) → n / 100 / 4 ≡ n / 400
+fourth-hundreds n = omega arith
 
 -- one common or leap year more, with q, c and d for the multiples of 4, 100 and 400
 step-J : (n q : ℕ) (a : Bool) → 365 * n + q + cond a 366 365 ≡ 365 * suc n + (q + bit a)
@@ -64,11 +73,11 @@ step-G n q c d false false true h i j = absurd (omega arith)
 step-G n q c d false false false h i j = omega arith
 
 step : (s : Style) (n : ℕ) → closed s n + yearLength s (suc n) ≡ closed s (suc n)
-step Julian n = rw (up 4 n _ (omega arith) refl) (step-J n (n / 4) (divides 4 (suc n)))
+step Julian n = rw (up 4 n _ (omega arith) refl) (omega (arith, step-J n (n / 4) (divides 4 (suc n))))
 step Gregorian n =
     let y = suc n in
-    rw (up 4 n _ (omega arith) refl, up 100 n _ (omega arith) refl, up 400 n _ (omega arith) refl)
-    (step-G n (n / 4) (n / 100) (n / 400) (divides 4 y) (divides 100 y) (divides 400 y) (centuries n)
+    rw (fourth-hundreds n, fourth-hundreds y, up 4 n _ (omega arith) refl, up 100 n _ (omega arith) refl, up 400 n _ (omega arith) refl)
+    (step-G n (n / 4) (n / 100) (n / 400) (divides 4 y) (divides 100 y) (divides 400 y) (choices-small Gregorian n .1)
     (fewer 4 100 y _ _ (λ h. omega arith) refl refl) (fewer 100 400 y _ _ (λ h. omega arith) refl refl))
 
 counted : (s : Style) (n : ℕ) → daysOfYears s n ≡ closed s n

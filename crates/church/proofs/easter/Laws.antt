@@ -1,27 +1,27 @@
 -- 21 March, the limit and Easter.
-use mathlib.Core.Bool.{Bool, true, false, _&&_, not, cond, and-true, and-false, and-eq-true-iff}
+use mathlib.Core.Bool.{Bool, true, false, _&&_, not, cond, and-eq-true-iff}
 use mathlib.Core.Logic.{_↔_}
-use mathlib.Core.Path.{_≡_, refl}
+use mathlib.Core.Path.{_≡_, refl, sym, _∙_, ap}
 use Prim.Native.Nat.{ℕ, suc, _+_, _-_, _≤_, _<_}
 use native.Mathlib.Nat.{add-zero}
 use native.Mathlib.Omega.{arith}
 use lib.Dec.{T, leb, leb→le}
 use lib.IntN.{ℤ, pos, negsuc}
 use borrow.Author.Tests.{eqb-false, ne-eqb, not-true}
-use Rattle.calendar.proofs.date.Laws.{answered}
 use Rattle.calendar.proofs.range.Laws.{in-range}
-use Rattle.calendar.proofs.span.Laws.{span-small, served-range, served-small, span-start, in-span-from}
+use Rattle.calendar.proofs.refusal.Laws.{no-day, passed}
+use Rattle.calendar.proofs.span.Laws.{span-range, span-small, served-range, served-small, span-start, in-span-from}
 use Rattle.calendar.proofs.weekday.Laws.{is-later}
 use Rattle.calendar.proofs.year.Laws.{year-up}
 use Rattle.church.proofs.column.Laws.{luna-range}
-use Rattle.calendar.specs.Date.{daysOfMonths, isDate, dayNumber, dayInYear}
+use Rattle.calendar.specs.Date.{daysOfMonths, isDate, dayNumber, dateTests, dayInYear}
 use Rattle.calendar.specs.Range.{between}
-use Rattle.calendar.specs.Refusal.{checked}
 use Rattle.calendar.specs.Span.{firstDay, earliest, latest, inSpan}
 use Rattle.calendar.specs.Weekday.{weekday, sunday, firstWeekday}
 use Rattle.calendar.specs.Year.{named, leap, newYear, served}
-use Rattle.church.specs.Easter.{limit, march, easter, reformYear, hasEaster, easterTests}
+use Rattle.church.specs.Easter.{limit, march, easter, reformYear, hasEaster}
 use Rattle.church.specs.Feast.{+_, daysFrom}
+use Rattle.calendar.specs.declared.refusal.Refusal.{Refusal}
 use Rattle.calendar.specs.declared.span.DayAnswer.the-variants.{Day, NoDay}
 use Rattle.calendar.specs.declared.style.Style.the-variants.{Julian, Gregorian}
 use Rattle.calendar.specs.declared.style.Style.{Style}
@@ -31,10 +31,6 @@ use Rattle.calendar.specs.declared.weekday.Side.the-variants.{After}
 has-easter : (s : Style) (y : ℕ) → served s y ≡ true → reformYear s y ≡ false → hasEaster s y ≡ true
 unfolding hasEaster
 has-easter s y r n = rw (r, n)
-
-pub no-easter : (s : Style) (y : ℕ) → reformYear s y ≡ true → hasEaster s y ≡ false
-unfolding hasEaster
-no-easter s y n = rw (n, and-false)
 
 pub easter-served : (s : Style) (y : ℕ) → hasEaster s y ≡ true → served s y ≡ true
 unfolding hasEaster
@@ -53,7 +49,7 @@ easter-years s y =
   where
     from : (s : Style) → served s y ≡ true → reformYear s y ≡ false → (firstEaster s ≤ y) × (y ≤ 9999)
     from Julian r n = served-range Julian y r
-    from Gregorian r n = omega (arith, served-range Gregorian y r, eqb-false y 1582 n)
+    from Gregorian r n = omega (arith, served-range Gregorian y r, eqb-false)
 
     to : (s : Style) → firstEaster s ≤ y → y ≤ 9999 → served s y && not (reformYear s y) ≡ true
     to Julian low high = rw (in-range 1 y 9999 low high)
@@ -97,12 +93,29 @@ near-easter s y n h from to =
     let l = year-long s y h in
     year-in-span s y n h (omega arith) (omega arith)
 
--- 21 March is answered exactly where Easter is, and else refused by 4
-pub equinox-answer : (s : Style) (y : ℕ) → reformYear s y ≡ false
-    → dayInYear (named s y) 3 21 ≡ checked NoDay (Day (march s y 21)) (easterTests (named s y))
-unfolding hasEaster isDate between march
-equinox-answer s y n =
-    rw (n, and-true) (answered s y 3 21 refl (λ r. near-easter s y (march s y 21) (has-easter s y r n) (omega arith) (omega arith)))
+-- 21 March is answered exactly where Easter is: in 1582 of G it lies before the span
+not-reform : (s : Style) (y : ℕ) → inSpan s (march s y 21) ≡ true → reformYear s y ≡ false
+unfolding march dayNumber
+not-reform Julian y i = refl
+not-reform Gregorian y i =
+    let m = march-21 (leap Gregorian y) in
+    let one = bit (leap Gregorian y) in
+    let r = span-range Gregorian (march Gregorian y 21) i in
+    ne-eqb y 1582 (λ e. omega (arith, span-start Gregorian, ap (newYear Gregorian) e))
+
+pub equinox-day : (s : Style) (y n : ℕ) → dayInYear (named s y) 3 21 ≡ Day n → (hasEaster s y ≡ true) × (march s y 21 ≡ n)
+unfolding dayInYear march
+equinox-day s y n e =
+    let p = passed (dateTests (named s y) 3 21) (march s y 21) n e in
+    (has-easter s y (p .0 .0) (not-reform s y (p .0 .1 .1 .0)), p .1)
+
+pub no-equinox : (s : Style) (y : ℕ) (x : Refusal) → dayInYear (named s y) 3 21 ≡ NoDay x → hasEaster s y ≡ false
+unfolding dayInYear isDate between march
+no-equinox s y x e = go _ refl
+  where
+    go : (t : Bool) → hasEaster s y ≡ t → t ≡ false
+    go true h = no-day x (march s y 21) (sym e ∙ rw (easter-served s y h, near-easter s y (march s y 21) h (omega arith) (omega arith)))
+    go false h = refl
 
 equinox-small : (s : Style) (y : ℕ) → hasEaster s y ≡ true → (earliest ≤ march s y 21) × (march s y 21 ≤ latest)
 equinox-small s y h = span-small s (march s y 21) (near-easter s y (march s y 21) h (omega arith) (omega arith))

@@ -98,7 +98,7 @@ abbrev pub monthOf : ℕ → ℕ
 monthOf i = getD fixedDates i 0 / 32 % 16
 
 abbrev pub dayOfMonth : Bool → ℕ → ℕ
-dayOfMonth b i = getD fixedDates i 0 % 32 + cond b (getD fixedDates i 0 / 512) 0
+dayOfMonth b i = getD fixedDates i 0 % 32 + cond (leb 512 (getD fixedDates i 0) && b) 1 0
 
 dated-tested : (b : Bool) (i : ℕ) → i < 24 → T (dated b (rule (i + 24)) (dayOfMonth b i) (monthOf i))
 unfolding dated

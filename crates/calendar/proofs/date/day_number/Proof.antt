@@ -1,8 +1,11 @@
-use Prim.Native.Nat.{suc, _≤_}
-use native.Mathlib.Numerals.{sub-one}
+use mathlib.Core.Bool.{cond}
+use mathlib.Core.Logic.{⊎-elim}
+use mathlib.Core.Path.{_≡_, refl}
+use Prim.Native.Nat.{suc, _+_, _-_, _*_, _/_, _≤_}
 use native.Mathlib.Omega.{arith}
-use borrow.Author.Needs.{needs}
-use Rattle.calendar.proofs.date.Dates.{DateBounds, date-bounds, date-small}
+use lib.Dec.{ltb}
+use borrow.Author.Tests.{lt-ltb, le-ltb}
+use Rattle.calendar.proofs.date.Dates.{DateBounds, date-bounds, year-of, day-by-offset}
 use Rattle.calendar.proofs.span.Laws.{served-small, new-year-small}
 use Rattle.calendar.specs.Date.{dayNumber}
 use Rattle.calendar.specs.Span.{latest}
@@ -10,37 +13,76 @@ use Rattle.calendar.specs.Year.{leap}
 use Rattle.calendar.proofs.date.day_number.Statement.{statement}
 use Rattle.calendar.proofs.date.day_number.Tie as tie
 
+year-is : (c : tie.Start) → (1 ≤ c .args .named .year) × (c .args .named .year ≤ 9999)
+year-is c = served-small _ _ (c .pre .0)
+
 bounds : (c : tie.Start) → DateBounds (leap (c .args .named .style) (c .args .named .year)) (c .args .month) (c .args .day)
 bounds c = date-bounds _ _ _ _ (c .pre .1)
 
-new-year-requires : tie.Need-new-year-requires
-new-year-requires c κs = omega (arith, served-small _ _ (c .pre .0))
+late-is : (c : tie.Joined1) → c .if1 .late ≡ cond (ltb 2 (c .before .args .month)) 1 0
+late-is c =
+    let month = c .before .args .month in
+    ⊎-elim (λ w. rw (lt-ltb 2 month (omega arith)) (w .1)) (λ w. rw (le-ltb 2 month (omega arith)) (w .1)) (c .if1 .came)
 
-days-before-requires : tie.Need-days-before-requires
-days-before-requires c κs = omega (arith, bounds (c .before .before))
-
-sizes : (c : tie.After-days-before)
-    → (c .before .before .new-year .result ≤ suc latest) × (c .days-before .result ≤ 366) × (c .before .before .before .args .day ≤ 366)
-sizes c =
-    let small = date-small _ _ _ (bounds (c .before .before .before)) in (
-      rw (c .before .before .new-year .ensures) (new-year-small _ _ (c .before .before .before .pre .0)),
-      rw (c .days-before .ensures, c .before .is-leap .ensures) (small .0),
-      small .1,
-    )
+late-small : (c : tie.Joined1) → c .if1 .late ≤ 1
+late-small c = ⊎-elim (λ w. omega arith) (λ w. omega arith) (c .if1 .came)
 
 add-result : tie.Need-add-result
-add-result c = omega (arith, sizes c)
+add-result c = omega (arith, year-is (c .before .before .before), late-small (c .before .before))
+
+new-year-requires : tie.Need-new-year-requires
+new-year-requires c κs = omega (arith, year-is (c .before .before .before), late-small (c .before .before))
+
+mul-result : tie.Need-mul-result
+mul-result c = omega (arith, bounds (c .before .before .before .before))
 
 sub-result : tie.Need-sub-result
-sub-result c = omega (arith, bounds (c .before .before .before))
+sub-result c = omega (arith, bounds (c .before .before .before .before))
+
+day-small : (c : tie.Start) → let a = c .args in dayNumber (a .named .style) (a .named .year) (a .month) (a .day) ≤ latest
+day-small c =
+    let s = c .args .named .style in
+    let y = c .args .named .year in
+    let in-year = year-of s _ y _ _ (record { year = year-is c .0; date = bounds c; number = refl }) in
+    omega (arith, in-year .to, new-year-small s (suc y) (omega (arith, year-is c)))
+
+sum-is : (c : tie.After-new-year)
+    → let a = c .before .before .before .before .args in
+    c .new-year .result + (979 * a .month - 966) / 32 + (a .day - 1)
+    ≡ dayNumber (a .named .style) (a .named .year) (a .month) (a .day) + 367 * c .before .before .before .if1 .late
+sum-is c =
+    let start = c .before .before .before .before in
+    rw (c .new-year .ensures, late-is (c .before .before .before)) (day-by-offset _ _ _ _ _ (year-is start .0) (bounds start) refl)
 
 add-result-2 : tie.Need-add-result-2
-add-result-2 c = omega (arith, sizes c)
+add-result-2 c = omega (arith, sum-is c, day-small (c .before .before .before .before), late-small (c .before .before .before))
+
+sub-result-2 : tie.Need-sub-result-2
+sub-result-2 c = omega (arith, bounds (c .before .before .before .before))
+
+add-result-3 : tie.Need-add-result-3
+add-result-3 c = omega (arith, sum-is c, day-small (c .before .before .before .before), late-small (c .before .before .before))
+
+mul-result-2 : tie.Need-mul-result-2
+mul-result-2 c = omega (arith, late-small (c .before .before .before))
+
+sub-result-3 : tie.Need-sub-result-3
+sub-result-3 c = omega (arith, sum-is c)
 
 returns : tie.Need-returns
-unfolding dayNumber
-returns c = rw (c .before .before .new-year .ensures, c .days-before .ensures, c .before .is-leap .ensures, sub-one)
+returns c = omega (arith, sum-is c)
 
 pub day-number-spec : {M : Type 1} → statement M
 day-number-spec =
-    tie.close (tie.spec new-year-requires (λ c κs. search needs) days-before-requires add-result sub-result add-result-2 returns)
+    tie.close
+    (tie.spec
+    add-result
+    new-year-requires
+    mul-result
+    sub-result
+    add-result-2
+    sub-result-2
+    add-result-3
+    mul-result-2
+    sub-result-3
+    returns)

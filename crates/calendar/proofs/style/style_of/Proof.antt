@@ -1,19 +1,14 @@
-use borrow.Author.Tests.{ne-eqb}
-use Rattle.calendar.specs.Style.{styleOf}
+use borrow.Author.Needs.{needs}
+use Rattle.calendar.proofs.Tested.{failed, held}
+use Rattle.calendar.proofs.style.Laws.{by-range}
 use Rattle.calendar.proofs.style.style_of.Statement.{statement}
 use Rattle.calendar.proofs.style.style_of.Tie as tie
 
 returns : tie.Need-returns
-unfolding styleOf
-returns c = rw (c .if1 .taken)
+returns c = rw (by-range, failed (c .before .is-between .ensures) (c .if1 .taken))
 
 returns-2 : tie.Need-returns-2
-unfolding styleOf
-returns-2 c = rw (c .if2 .taken)
-
-returns-3 : tie.Need-returns-3
-unfolding styleOf
-returns-3 c = rw (ne-eqb _ 1 (c .before .if1 .left), ne-eqb _ 2 (c .if2 .left))
+returns-2 c = rw (by-range, held (c .before .before .is-between .ensures) (c .before .if1 .left), c .style-by .ensures)
 
 pub style-of-spec : {M : Type 1} → statement M
-style-of-spec = tie.close (tie.spec returns returns-2 returns-3)
+style-of-spec = tie.close (tie.spec (λ c κs. search needs) returns (λ c κs. search needs) returns-2)

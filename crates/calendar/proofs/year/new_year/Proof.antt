@@ -1,26 +1,51 @@
-use Prim.Native.Nat.{_-_}
+use mathlib.Core.Logic.{⊎-elim}
+use mathlib.Core.Path.{_≡_}
+use Prim.Native.Nat.{_-_, _/_, _≤_}
 use native.Mathlib.Omega.{arith}
 use borrow.Author.Needs.{needs}
-use Rattle.calendar.proofs.year.Laws.{centuries, new-year-at}
-use Rattle.calendar.specs.declared.style.Style.the-variants.{Julian, Gregorian}
+use Rattle.calendar.proofs.year.Laws.{hundreds, choices-small, new-year-at}
+use Rattle.calendar.specs.Year.{firstNewYear}
 use Rattle.calendar.proofs.year.new_year.Statement.{statement}
 use Rattle.calendar.proofs.year.new_year.Tie as tie
 
+first-is : (c : tie.At-match-came) → c .match .first ≡ firstNewYear (c .before .before .args .named .style)
+first-is c = ⊎-elim (λ w. rw (w .1 .given .1) (w .2)) (λ w. rw (w .1 .given .1) (w .2)) (c .match .came)
+
+hundreds-are : (c : tie.At-match2-came)
+    → let named = c .before .before .before .args .named in
+    c .match2 .hundreds ≡ hundreds (named .style) (named .year - 1)
+hundreds-are c = ⊎-elim (λ w. rw (w .1 .given .1) (w .2)) (λ w. rw (w .1 .given .1) (w .2)) (c .match2 .came)
+
+sizes : (c : tie.At-match2-came) → (c .before .match .first ≤ 1721426) × (c .match2 .hundreds ≤ (c .before .before .before .args .named .year - 1) / 4)
+sizes c =
+    let named = c .before .before .before .args .named in
+    rw (first-is (c .before), hundreds-are c) (choices-small (named .style) (named .year - 1))
+
+add-result : tie.Need-add-result
+add-result c = omega (arith, sizes (c .before))
+
+add-result-2 : tie.Need-add-result-2
+add-result-2 c = omega (arith, sizes (c .before))
+
+add-result-3 : tie.Need-add-result-3
+add-result-3 c = omega (arith, sizes (c .before .before))
+
+sub-result : tie.Need-sub-result
+sub-result c = omega (arith, sizes (c .before .before))
+
 returns : tie.Need-returns
 returns c =
-    let y = c .before .before .before .args .named .year in
-    rw (c .enum-told .given .1) (omega (arith, new-year-at Julian y (omega arith)))
-
-returns-2 : tie.Need-returns-2
-returns-2 c =
-    let y = c .before .before .before .args .named .year in
-    rw (c .enum-told2 .given .1) (omega (arith, new-year-at Gregorian y (omega arith), centuries (y - 1)))
+    let named = c .before .before .before .before .before .args .named in
+    rw (first-is (c .before .before .before), hundreds-are (c .before .before), new-year-at (named .style) (named .year) (omega arith))
+    (omega (arith, choices-small (named .style) (named .year - 1)))
 
 pub new-year-spec : {M : Type 1} → statement M
 new-year-spec =
     tie.close
     (tie.spec
     (λ c. search needs) (λ c. search needs) (λ c. search needs) (λ c. search needs) (λ c. search needs) (λ c. search needs)
-    (λ c. search needs) (λ c. search needs) (λ c. search needs) (λ c. search needs) (λ c. search needs)
-    returns
-    returns-2)
+    add-result
+    add-result-2
+    add-result-3
+    sub-result
+    returns)

@@ -12,16 +12,17 @@ mul-b c = rw (c .golden-number .ensures) (omega (arith, golden-range (c .before 
 returns : tie.Need-returns
 unfolding arithmeticLimit
 returns c =
-    let k = c .before .before .before in
-    let t = k .before .args .named in
-    rw (← one-limit (t .style) (t .year), c .julian-limit .ensures, k .golden-number .ensures, c .before .enum-told .given .1)
+    let j = c .before .before .before .before in
+    let t = j .before .before .args .named in
+    rw (← one-limit (t .style) (t .year), j .julian-limit .ensures, j .before .golden-number .ensures, c .enum-told .given .1)
 
 returns-2 : tie.Need-returns-2
 unfolding arithmeticLimit
 returns-2 c =
-    let k = c .before .before .before .before in
+    let g = c .before .before in
+    let k = g .before .before .before in
     let t = k .before .args .named in
-    rw (← one-limit (t .style) (t .year), c .gregorian-limit .ensures, k .golden-number .ensures, c .before .before .enum-told2 .given .1)
+    rw (← one-limit (t .style) (t .year), g .gregorian-limit .ensures, k .golden-number .ensures, c .enum-told2 .given .1)
 
 pub limit-of-year-spec : {M : Type 1} → statement M
 limit-of-year-spec =
@@ -29,7 +30,7 @@ limit-of-year-spec =
     (tie.spec
     (λ c κs. search needs)
     mul-b
-    (λ c. search needs) (λ c κs. search needs)
-    (λ c. search needs) (λ c κs. search needs)
+    (λ c κs. search needs) (λ c κs. search needs)
+    (λ c. search needs) (λ c. search needs)
     returns
     returns-2)
