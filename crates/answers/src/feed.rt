@@ -3,10 +3,11 @@ use words::text::pack4;
 use words::text::pack8;
 ghost use mathlib.Core.Bool.{cond};
 ghost use mathlib.Core.Path.{_≡_};
-ghost use Prim.Native.Nat.{_+_, _≤_};
+ghost use Prim.Native.Nat.{_+_, _/_, _≤_};
+ghost use lib.Count.{trailingZeros};
 ghost use lib.Dec.{ltb};
 ghost use lib.ListN.{length, take, drop};
-ghost use Rattle.answers.specs.Steps.{feeds, beforeFeed, feedBits, EndsAt};
+ghost use Rattle.answers.specs.Steps.{feeds, feedBits, EndsAt};
 
 // The eight bytes from a place on as a number, the first the lowest, with 128 in the place of each line feed and 0 in that of any other byte.
 fn feed_bits(bytes: &[u8], at: usize) -> u64
@@ -30,12 +31,11 @@ pub(crate) fn feeds_at(bytes: &[u8], at: usize) -> usize
     u64::count_ones(feed_bits(bytes, at)) as usize
 }
 
-// How many of the eight bytes from a place on stand before their first line feed: all where there is none.
-fn before_feed(bytes: &[u8], at: usize) -> usize
-    requires { ⌜ at + 8 ≤ length (now bytes) ⌝ }
-    ensures { λ r. ⌜ r ≡ beforeFeed (take 8 (drop at (now (bytes .entry)))) ⌝ }
+// How many of the eight bytes of a number, from the lowest on, stand before the first that is not 0: all where there is none.
+fn before_bits(bits: u64) -> usize
+    ensures { λ r. ⌜ r ≡ trailingZeros 64 bits / 8 ⌝ }
 {
-    u64::trailing_zeros(feed_bits(bytes, at)) as usize / 8
+    u64::trailing_zeros(bits) as usize / 8
 }
 
 // How many of eight bytes and of those behind them stand before the first line feed, by how many of each do.
@@ -54,11 +54,12 @@ pub(crate) fn end_from(bytes: &[u8], start: usize) -> usize
     let mut i = start;
     // As many bytes as most lines have are looked at together, so that nothing waits for how long a line is.
     while bytes.len() - i >= 24 {
-        let last = before_feed(bytes, i + 16);
-        let later = before_both(before_feed(bytes, i + 8), last);
-        let before = before_both(before_feed(bytes, i), later);
-        if before < 24 {
-            return i + before;
+        let first = feed_bits(bytes, i);
+        let second = feed_bits(bytes, i + 8);
+        let third = feed_bits(bytes, i + 16);
+        if first | second | third > 0 {
+            let later = before_both(before_bits(second), before_bits(third));
+            return i + before_both(before_bits(first), later);
         }
         i += 24;
     }

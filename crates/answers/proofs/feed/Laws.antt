@@ -2,7 +2,7 @@
 use mathlib.Core.Bool.{Bool, true, false, cond}
 use mathlib.Core.List.{List, [], _∷_, _++_}
 use mathlib.Core.Logic.{inl, inr}
-use mathlib.Core.Path.{_≡_, refl}
+use mathlib.Core.Path.{_≡_, refl, ap}
 use Prim.Native.Nat.{ℕ, zero, suc, _+_, _-_, _<_, _≤_}
 use native.Mathlib.Numerals.{add-one}
 use native.Mathlib.Omega.{arith}
@@ -137,30 +137,27 @@ before-eight s i n fits =
     let size = length-take-le 8 (drop i s) (omega (arith, length-drop i s)) in
     rw (take-add 8 n (drop i s), drop-drop 8 i s, before-append (take 8 (drop i s)) (take n (drop (i + 8) s)), size)
 
--- ---- eight bytes written out
-pub eight : (s : List ℕ) (i : ℕ) → i + 8 ≤ length s
-    → take 8 (drop i s)
-    ≡ getD s i 0 ∷ getD s (i + 1) 0 ∷ getD s (i + 2) 0 ∷ getD s (i + 3) 0 ∷ getD s (i + 4) 0 ∷ getD s (i + 5) 0 ∷ getD s (i + 6) 0 ∷ getD s (i + 7) 0 ∷ []
-eight s i fits =
-    let third : i + 2 ≡ i + 1 + 1 = omega arith in
-    let fourth : i + 3 ≡ i + 1 + 1 + 1 = omega arith in
-    let fifth : i + 4 ≡ i + 1 + 1 + 1 + 1 = omega arith in
-    let sixth : i + 5 ≡ i + 1 + 1 + 1 + 1 + 1 = omega arith in
-    let seventh : i + 6 ≡ i + 1 + 1 + 1 + 1 + 1 + 1 = omega arith in
-    let eighth : i + 7 ≡ i + 1 + 1 + 1 + 1 + 1 + 1 + 1 = omega arith in
-    rw (
-      third,
-      fourth,
-      fifth,
-      sixth,
-      seventh,
-      eighth,
-      next s i (omega arith),
-      next s (i + 1) (omega arith),
-      next s (i + 1 + 1) (omega arith),
-      next s (i + 1 + 1 + 1) (omega arith),
-      next s (i + 1 + 1 + 1 + 1) (omega arith),
-      next s (i + 1 + 1 + 1 + 1 + 1) (omega arith),
-      next s (i + 1 + 1 + 1 + 1 + 1 + 1) (omega arith),
-      next s (i + 1 + 1 + 1 + 1 + 1 + 1 + 1) (omega arith),
-    )
+pub feeds-eight : (s : List ℕ) (i n : ℕ) → feeds (take (8 + n) (drop i s)) ≡ feeds (take 8 (drop i s)) + feeds (take n (drop (i + 8) s))
+feeds-eight s i n = rw (take-add 8 n (drop i s), drop-drop 8 i s) (feeds-append (take 8 (drop i s)) (take n (drop (i + 8) s)))
+
+-- where there is a line feed, fewer than all stand before it
+pub feed-before : (s : List ℕ) → 0 < feeds s → beforeFeed s < length s
+unfolding feeds beforeFeed
+feed-before [] h = absurd (omega arith)
+feed-before (c ∷ s) h =
+    elim (either (eqb c lineFeed)) [
+      | inl e ↦ rw e (omega arith)
+      | inr e ↦ rw e (omega (arith, feed-before s (omega (arith, rw e at h))))
+    ]
+
+-- ---- bytes written out
+-- the n bytes of s from the place i and k on
+abbrev pub bytesAt : List ℕ → (i k n : ℕ) → List ℕ
+bytesAt s i k zero = []
+bytesAt s i k (suc n) = getD s (i + k) 0 ∷ bytesAt s i (suc k) n
+
+pub written-out : (s : List ℕ) (i k n : ℕ) → i + k + n ≤ length s → take n (drop (i + k) s) ≡ bytesAt s i k n
+written-out s i k zero fits = refl
+written-out s i k (suc n) fits =
+    let place : i + k + 1 ≡ i + suc k = omega arith in
+    rw (next s (i + k) (omega arith), place) (ap (λ (t : List ℕ). getD s (i + k) 0 ∷ t) (written-out s i (suc k) n (omega arith)))
