@@ -2,7 +2,7 @@
 use mathlib.Core.Bool.{false, cond}
 use mathlib.Core.List.{List, [], _∷_}
 use mathlib.Core.Path.{_≡_}
-use Prim.Native.Nat.{ℕ, suc, _+_, _-_, _*_, _<_, _≤_}
+use Prim.Native.Nat.{ℕ, _+_, _-_, _*_, _<_, _≤_}
 use lib.Dec.{eqb}
 use lib.ListN.{length, take, drop, getD}
 use Rattle.words.specs.Text.{has}
@@ -21,11 +21,6 @@ pub record AnswersEnded (s before after : List ℕ) (r : Ended) : Type 0 where
 unfoldable pub feeds : List ℕ → ℕ
 feeds [] = 0
 feeds (c ∷ s) = cond (eqb c lineFeed) 1 0 + feeds s
-
--- how many bytes stand before the first line feed, all where there is none
-unfoldable pub beforeFeed : List ℕ → ℕ
-beforeFeed [] = 0
-beforeFeed (c ∷ s) = cond (eqb c lineFeed) 0 (suc (beforeFeed s))
 
 -- the bytes as digits of a number, the first the lowest: 128 for a line feed, and 0 for any other
 unfoldable pub feedBits : List ℕ → ℕ

@@ -16,11 +16,11 @@ fn feed_bits(bytes: &[u8], at: usize) -> u64
 {
     let low = pack4(bytes[at], bytes[at + 1], bytes[at + 2], bytes[at + 3]);
     let high = pack4(bytes[at + 4], bytes[at + 5], bytes[at + 6], bytes[at + 7]);
-    // 0 for a line feed alone.
-    let other = pack8(low, high) ^ 0x0a0a0a0a0a0a0a0a;
-    // At least 128 where the seven low bits of a byte are not all 0; none carries into the next byte.
-    let some = (other & 0x7f7f7f7f7f7f7f7f) + 0x7f7f7f7f7f7f7f7f;
-    !(some | other) & 0x8080808080808080
+    // Each byte is 0 for a line feed, and for no other.
+    let differs = pack8(low, high) ^ 0x0a0a0a0a0a0a0a0a;
+    // Each byte is at least 128 where one of the seven low bits differs; none carries into the next byte.
+    let low_differs = (differs & 0x7f7f7f7f7f7f7f7f) + 0x7f7f7f7f7f7f7f7f;
+    !(low_differs | differs) & 0x8080808080808080
 }
 
 // How many of the eight bytes from a place on are line feeds.
@@ -31,19 +31,34 @@ pub(crate) fn feeds_at(bytes: &[u8], at: usize) -> usize
     u64::count_ones(feed_bits(bytes, at)) as usize
 }
 
-// How many of the eight bytes of a number, from the lowest on, stand before the first that is not 0: all where there is none.
-fn before_bits(bits: u64) -> usize
-    ensures { λ r. ⌜ r ≡ trailingZeros 64 bits / 8 ⌝ }
+// How many of the eight bytes of a number, from the lowest on, are 0 before the first that is not.
+fn zero_bytes(number: u64) -> usize
+    ensures { λ r. ⌜ r ≡ trailingZeros 64 number / 8 ⌝ }
 {
-    u64::trailing_zeros(bits) as usize / 8
+    u64::trailing_zeros(number) as usize / 8
 }
 
-// How many of eight bytes and of those behind them stand before the first line feed, by how many of each do.
-fn before_both(eight: usize, behind: usize) -> usize
+// How many of eight bytes and those behind them stand before the first line feed, by how many of each do: the first number, or where that is 8, both together.
+fn before_feed(eight: usize, behind: usize) -> usize
     requires { ⌜ behind ≤ 16 ⌝ }
     ensures { λ r. ⌜ r ≡ cond (ltb eight 8) eight (8 + behind) ⌝ }
 {
     if eight < 8 { eight } else { 8 + behind }
+}
+
+// Where the line that begins at a place ends, looked for byte by byte.
+fn end_by_bytes(bytes: &[u8], start: usize) -> usize
+    requires { ⌜ start ≤ length (now bytes) ⌝ }
+    ensures { λ r. ⌜ EndsAt (now (bytes .entry)) start r ⌝ }
+{
+    let mut i = start;
+    while i < bytes.len() {
+        if bytes[i] == b'\n' {
+            return i;
+        }
+        i += 1;
+    }
+    i
 }
 
 // Where the line that begins at a place ends: at the first line feed from there on, or else with the bytes.
@@ -52,22 +67,16 @@ pub(crate) fn end_from(bytes: &[u8], start: usize) -> usize
     ensures { λ r. ⌜ EndsAt (now (bytes .entry)) start r ⌝ }
 {
     let mut i = start;
-    // As many bytes as most lines have are looked at together, so that nothing waits for how long a line is.
+    // Most lines end within the first twenty-four bytes, so that the first turn finds the end, however long the line is.
     while bytes.len() - i >= 24 {
         let first = feed_bits(bytes, i);
         let second = feed_bits(bytes, i + 8);
         let third = feed_bits(bytes, i + 16);
         if first | second | third > 0 {
-            let later = before_both(before_bits(second), before_bits(third));
-            return i + before_both(before_bits(first), later);
+            let later = before_feed(zero_bytes(second), zero_bytes(third));
+            return i + before_feed(zero_bytes(first), later);
         }
         i += 24;
     }
-    while i < bytes.len() {
-        if bytes[i] == b'\n' {
-            return i;
-        }
-        i += 1;
-    }
-    i
+    end_by_bytes(bytes, i)
 }

@@ -100,13 +100,13 @@ fn day_number(named: NamedYear, month: u64, day: u64) -> u64
     ensures { λ r. ⌜ r ≡ dayNumber (named .style) (named .year) month day ⌝ }
 {
     let style = named.style;
-    let late = if month > 2 { 1 } else { 0 };
-    let new_year = new_year(NamedYear {
+    let behind_february = if month > 2 { 1 } else { 0 };
+    let start = new_year(NamedYear {
         style,
-        year: named.year + late,
+        year: named.year + behind_february,
     });
-    // Behind February a day counts back from the next new year, so that nothing waits for whether the year is leap.
-    new_year + (979 * month - 966) / 32 + (day - 1) - 367 * late
+    // The quotient is the days before the month if February had 30, and a year 367: behind February a day counts back from the next new year.
+    start + (979 * month - 966) / 32 + (day - 1) - 367 * behind_february
 }
 
 // The day of a date of a year; its style comes as a truth value, which is handed on in a register and not in memory.

@@ -16,7 +16,7 @@ pub enum StyleAnswer {
     NoStyle(Refusal),
 }
 
-// The style that has a number; nothing waits for which of the two it is.
+// The style that has a number.
 pub fn style_of(number: u64) -> StyleAnswer
     ensures { λ r. ⌜ r ≡ styleOf number ⌝ }
 {

@@ -67,7 +67,7 @@ pub(crate) fn new_year(named: NamedYear) -> u64
         Style::Julian => J_NEW_YEAR,
         Style::Gregorian => G_NEW_YEAR,
     };
-    // The hundreds of years, of which G leaves out a leap day, but for each fourth.
+    // The years before that end a century, of which the style leaves out the leap day, but for each fourth; J leaves out none.
     let hundreds = match style {
         Style::Julian => 0,
         Style::Gregorian => n / 100,

@@ -28,7 +28,7 @@ pub(crate) fn limit_of_year(named: NamedYear) -> u64
     let style = named.style;
     let golden_number = golden_number(named);
     let b = 11 * golden_number % 30;
-    // Both are worked out, so that nothing waits for the style.
+    // Both are worked out, so that there is no branch on the style.
     let julian = julian_limit(b);
     let gregorian = gregorian_limit(golden_number, b, named.year / 100);
     match style {
@@ -43,7 +43,7 @@ pub(crate) fn equinox(named: NamedYear) -> DayAnswer
 {
     match day_in_year(named, 3, 21) {
         DayAnswer::Day(day) => DayAnswer::Day(day),
-        // 1582 of G is served, but its 21 March lies before the span.
+        // The year is not served, or it is 1582 of G, whose 21 March lies before the span.
         DayAnswer::NoDay(_) => DayAnswer::NoDay(Refusal::Year),
     }
 }

@@ -96,7 +96,7 @@ fn fixed_in_year(named: NamedYear, feast: u64) -> DayAnswer
 {
     let i = (feast - 24) as usize;
     let date = FIXED_DATES[i] as u64;
-    // Whether the year is leap is asked only for a date that hangs on it.
+    // Whether the year is leap is asked only for a feast that is a day later in leap years.
     let later = if date >= 512 && is_leap(named) { 1 } else { 0 };
     day_in_year(named, date / 32 % 16, date % 32 + later)
 }

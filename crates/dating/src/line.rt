@@ -31,7 +31,7 @@ pub(crate) enum Reading {
     Refused(Refusal),
 }
 
-// Whether a byte is the letter of a style: of the four letters from G to J, these two leave 2 by threes, so that nothing waits for which it is.
+// Whether a byte is the letter of a style.
 fn is_style_letter(byte: u8) -> bool
     ensures { λ r. ⌜ r ≡ isStyleLetter byte ⌝ }
 {
@@ -41,6 +41,7 @@ fn is_style_letter(byte: u8) -> bool
     if byte > b'J' {
         return false;
     }
+    // Of the bytes of G, H, I and J, those of G and J alone leave 2 when they are divided by 3.
     byte % 3 == 2
 }
 

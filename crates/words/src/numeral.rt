@@ -43,7 +43,7 @@ pub fn number_of(text: &[u8], high: u64) -> u64
     n
 }
 
-// The number from 1 to high, of one or two digits, whose numeral the bytes are; 0 where they are none. Nothing waits for how many digits there are.
+// The number from 1 to high, of one or two digits, whose numeral the bytes are; 0 where they are none.
 pub fn short_number_of(text: &[u8], high: u64) -> u64
     ensures { λ r. ⌜ Told (numerals (min high 99)) (λ n. n) 0 (now (text .entry)) r ⌝ }
 {
@@ -68,6 +68,7 @@ pub fn short_number_of(text: &[u8], high: u64) -> u64
     if last > b'9' {
         return 0;
     }
+    // Of two digits the first counts tens; a single one is the last.
     let tens = if count == 2 { leading - b'0' } else { 0 };
     let n = 10 * tens as u64 + (last - b'0') as u64;
     if n > high {

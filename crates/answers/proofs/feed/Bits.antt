@@ -15,9 +15,9 @@ use lib.Seq.{length-take-le}
 use borrow.Author.Tests.{eqb-true}
 use Rattle.calendar.proofs.Each.{each, below, is-true}
 use Rattle.words.proofs.text.Laws.{either}
-use Rattle.answers.proofs.feed.Laws.{bytesAt, before-eight, feeds-eight, feed-before}
+use Rattle.answers.proofs.feed.Laws.{beforeFeed, before-eight, feeds-eight, feed-before, bytesAt}
 use Rattle.dating.specs.Answer.{lineFeed}
-use Rattle.answers.specs.Steps.{feeds, beforeFeed, feedBits}
+use Rattle.answers.specs.Steps.{feeds, feedBits}
 
 -- bytes as digits of a number, the first the lowest
 unfoldable pub packed : List ℕ → ℕ

@@ -14,7 +14,7 @@ use Rattle.words.proofs.text.Laws.{either, has-append}
 use Rattle.words.specs.Text.{has}
 use Rattle.dating.specs.Answer.{lineFeed}
 use Rattle.answers.specs.Lines.{endedLines}
-use Rattle.answers.specs.Steps.{feeds, beforeFeed, between, Quiet}
+use Rattle.answers.specs.Steps.{feeds, between, Quiet, EndsAt}
 
 -- ---- line feeds
 pub feeds-append : (a b : List ℕ) → feeds (a ++ b) ≡ feeds a + feeds b
@@ -77,10 +77,24 @@ module _ {s : List ℕ} {i j : ℕ} (q : Quiet s i j) where
     lacks = rw (longer n) (has-append lineFeed (between s i j) (take n (drop j s)) (q .lacks) (no-feeds (take n (drop j s)) none));
   }
 
+  -- where a line that begins at j ends, one that begins at i does too
+  pub ends-on : {k : ℕ} → EndsAt s j k → EndsAt s i k
+  ends-on {k} e =
+      let to = e .quiet .from in
+      let whole : j + (k - j) ≡ k = omega arith in
+      let together : between s i k ≡ between s i j ++ between s j k = rw whole at (longer (k - j)) in
+      let lacks = has-append lineFeed (between s i j) (between s j k) (q .lacks) (e .quiet .lacks) in
+      record { quiet = record { from = omega (arith, q .from); inside = e .quiet .inside; lacks = rw together lacks }; feed = e .feed }
+
   pub quiet-byte : j < length s → (getD s j 0 ≡ lineFeed → ⊥) → Quiet s i (j + 1)
   quiet-byte more other = quiet-on 1 (omega arith) (rw (one-feed s j more, ne-eqb (getD s j 0) lineFeed other))
 
 -- ---- bytes before a line feed
+-- how many there are, all where there is no line feed
+unfoldable pub beforeFeed : List ℕ → ℕ
+beforeFeed [] = 0
+beforeFeed (c ∷ s) = cond (eqb c lineFeed) 0 (suc (beforeFeed s))
+
 -- r of the n bytes of s from the place j on stand before a line feed, and so do those from i up to j
 pub record Before (s : List ℕ) (i j n r : ℕ) : Type 0 where
   pub quiet : Quiet s i (j + r)

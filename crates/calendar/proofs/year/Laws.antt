@@ -40,7 +40,7 @@ fewer j k y true false h p q = omega arith
 fewer j k y false true h p q = absurd (eqb-false (y % j) 0 p (h (eqb-true (y % k) 0 q)))
 fewer j k y false false h p q = omega arith
 
--- the hundreds of years, of which G leaves out a leap day, but for each fourth
+-- the years from 1 to n that end a century, of which the style leaves out the leap day, but for each fourth; J leaves out none
 abbrev pub hundreds : Style → ℕ → ℕ
 hundreds Julian n = 0
 hundreds Gregorian n = n / 100

@@ -10,8 +10,8 @@ use Rattle.answers.specs.Steps.{feedBits}
 use Rattle.answers.proofs.feed.feed_bits.Statement.{statement}
 use Rattle.answers.proofs.feed.feed_bits.Tie as tie
 
-add-some : tie.Need-add-some
-add-some c = omega (arith, and-le-r (bitXor (c .pack8 .result) 723401728380766730) 9187201950435737471)
+add-low-differs : tie.Need-add-low-differs
+add-low-differs c = omega (arith, and-le-r (bitXor (c .pack8 .result) 723401728380766730) 9187201950435737471)
 
 returns : tie.Need-returns
 unfolding packed times
@@ -37,5 +37,5 @@ feed-bits-spec =
     (λ c. search needs) (λ c. search needs) (λ c. search needs) (λ c. search needs)
     (λ c. search needs) (λ c. search needs) (λ c. search needs) (λ c. search needs)
     (λ c κs. search needs) (λ c κs. search needs)
-    add-some
+    add-low-differs
     returns)

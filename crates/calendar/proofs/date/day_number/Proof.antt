@@ -19,19 +19,19 @@ year-is c = served-small _ _ (c .pre .0)
 bounds : (c : tie.Start) → DateBounds (leap (c .args .named .style) (c .args .named .year)) (c .args .month) (c .args .day)
 bounds c = date-bounds _ _ _ _ (c .pre .1)
 
-late-is : (c : tie.Joined1) → c .if1 .late ≡ cond (ltb 2 (c .before .args .month)) 1 0
-late-is c =
+behind-is : (c : tie.Joined1) → c .if1 .behind-february ≡ cond (ltb 2 (c .before .args .month)) 1 0
+behind-is c =
     let month = c .before .args .month in
     ⊎-elim (λ w. rw (lt-ltb 2 month (omega arith)) (w .1)) (λ w. rw (le-ltb 2 month (omega arith)) (w .1)) (c .if1 .came)
 
-late-small : (c : tie.Joined1) → c .if1 .late ≤ 1
-late-small c = ⊎-elim (λ w. omega arith) (λ w. omega arith) (c .if1 .came)
+behind-small : (c : tie.Joined1) → c .if1 .behind-february ≤ 1
+behind-small c = ⊎-elim (λ w. omega arith) (λ w. omega arith) (c .if1 .came)
 
 add-result : tie.Need-add-result
-add-result c = omega (arith, year-is (c .before .before .before), late-small (c .before .before))
+add-result c = omega (arith, year-is (c .before .before .before), behind-small (c .before .before))
 
 new-year-requires : tie.Need-new-year-requires
-new-year-requires c κs = omega (arith, year-is (c .before .before .before), late-small (c .before .before))
+new-year-requires c κs = omega (arith, year-is (c .before .before .before), behind-small (c .before .before))
 
 mul-result : tie.Need-mul-result
 mul-result c = omega (arith, bounds (c .before .before .before .before))
@@ -49,22 +49,22 @@ day-small c =
 sum-is : (c : tie.After-new-year)
     → let a = c .before .before .before .before .args in
     c .new-year .result + (979 * a .month - 966) / 32 + (a .day - 1)
-    ≡ dayNumber (a .named .style) (a .named .year) (a .month) (a .day) + 367 * c .before .before .before .if1 .late
+    ≡ dayNumber (a .named .style) (a .named .year) (a .month) (a .day) + 367 * c .before .before .before .if1 .behind-february
 sum-is c =
     let start = c .before .before .before .before in
-    rw (c .new-year .ensures, late-is (c .before .before .before)) (day-by-offset _ _ _ _ _ (year-is start .0) (bounds start) refl)
+    rw (c .new-year .ensures, behind-is (c .before .before .before)) (day-by-offset _ _ _ _ _ (year-is start .0) (bounds start) refl)
 
 add-result-2 : tie.Need-add-result-2
-add-result-2 c = omega (arith, sum-is c, day-small (c .before .before .before .before), late-small (c .before .before .before))
+add-result-2 c = omega (arith, sum-is c, day-small (c .before .before .before .before), behind-small (c .before .before .before))
 
 sub-result-2 : tie.Need-sub-result-2
 sub-result-2 c = omega (arith, bounds (c .before .before .before .before))
 
 add-result-3 : tie.Need-add-result-3
-add-result-3 c = omega (arith, sum-is c, day-small (c .before .before .before .before), late-small (c .before .before .before))
+add-result-3 c = omega (arith, sum-is c, day-small (c .before .before .before .before), behind-small (c .before .before .before))
 
 mul-result-2 : tie.Need-mul-result-2
-mul-result-2 c = omega (arith, late-small (c .before .before .before))
+mul-result-2 c = omega (arith, behind-small (c .before .before .before))
 
 sub-result-3 : tie.Need-sub-result-3
 sub-result-3 c = omega (arith, sum-is c)
