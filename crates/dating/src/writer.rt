@@ -37,11 +37,27 @@ fn digit_count(number: u64) -> usize
     count
 }
 
+// Puts a number below 100 and a byte behind it at a place, and answers the place behind both.
+fn put_short(buffer: &mut [u8], at: usize, number: u64, behind: u8) -> usize
+    requires { ⌜ (number ≤ 99) × (at + length (field number behind) ≤ length (now buffer)) ⌝ }
+    ensures { λ r. ⌜ Put (now (buffer .entry)) at (field number behind) (now (buffer .exit)) r ⌝ }
+{
+    let last = if number < 10 { at } else { at + 1 };
+    // Where there is one digit, it is put over the tens.
+    buffer[at] = b'0' + (number / 10) as u8;
+    buffer[last] = b'0' + (number % 10) as u8;
+    buffer[last + 1] = behind;
+    last + 2
+}
+
 // Puts a number and a byte behind it at a place, and answers the place behind both.
 pub(crate) fn put_number(buffer: &mut [u8], at: usize, number: u64, behind: u8) -> usize
     requires { ⌜ at + length (field number behind) ≤ length (now buffer) ⌝ }
     ensures { λ r. ⌜ Put (now (buffer .entry)) at (field number behind) (now (buffer .exit)) r ⌝ }
 {
+    if number < 100 {
+        return put_short(buffer, at, number, behind);
+    }
     let end = at + digit_count(number);
     buffer[end] = behind;
     let mut i = end;

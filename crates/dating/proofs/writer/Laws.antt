@@ -5,7 +5,7 @@ use mathlib.Core.Path.{_≡_, refl, sym, _∙_, ap}
 use Prim.Native.Nat.{ℕ, suc, _+_, _-_, _/_, _%_, _<_, _≤_}
 use native.Mathlib.Omega.{arith}
 use lib.ListN.{length, set, length-append}
-use lib.Seq.{sets, length-sets, set-comm}
+use lib.Seq.{sets, length-sets, set-comm, set-set}
 use borrow.Author.Tests.{le-leb, lt-leb}
 use Rattle.places.proofs.Bytes.{sets-both, sets-start}
 use Rattle.calendar.proofs.date.Laws.{date-small, day-date, one-answer-in-style}
@@ -71,6 +71,18 @@ module _ {s : List ℕ} {i : ℕ} {v b : List ℕ} {r : ℕ} (p : Put s i v b r)
 
 pub put-byte : (s : List ℕ) (i c : ℕ) → Put s i (c ∷ []) (set s i c) (i + 1)
 put-byte s i c = record { behind = refl; bytes = refl }
+
+-- a number below 100, whose last digit is put over the tens where it is the only one
+module _ (s : List ℕ) (i n c : ℕ) where
+  pub one-digit-put : n < 10 → Put s i (field n c) (set (set (set s i (digit (n / 10))) i (digit (n % 10))) (i + 1) c) (i + 2)
+  one-digit-put h =
+      let d : n % 10 ≡ n = omega arith in let r : i + 2 ≡ i + 1 + 1 = omega arith in
+      rw (set-set s i (digit (n / 10)) (digit (n % 10)), d, r, one-digit n (omega arith)) (put-on (put-byte s i _) (put-byte _ (i + 1) c))
+
+  pub two-digits-put : 10 ≤ n → n ≤ 99 → Put s i (field n c) (set (set (set s i (digit (n / 10))) (i + 1) (digit (n % 10))) (i + 1 + 1) c) (i + 1 + 2)
+  two-digits-put low high =
+      let r : i + 1 + 2 ≡ i + 1 + 1 + 1 = omega arith in
+      rw (r, more-digits n low (omega arith), one-digit (n / 10) (omega arith)) (put-on (put-on (put-byte s i _) (put-byte _ (i + 1) _)) (put-byte _ _ c))
 
 -- ---- dates
 module _ (t : NamedYear) (m d : ℕ) where

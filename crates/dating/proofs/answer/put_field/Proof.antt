@@ -9,11 +9,6 @@ use Rattle.dating.proofs.writer.Laws.{field-length}
 use Rattle.dating.proofs.answer.put_field.Statement.{statement}
 use Rattle.dating.proofs.answer.put_field.Tie as tie
 
-put-number-requires : tie.Need-put-number-requires
-put-number-requires c κs =
-    let a = c .before .before .before .before .args in
-    omega (arith, field-length (a .number) (a .behind), numeral-length (a .number) .1, c .before .before .if1 .left, c .before .if2 .left)
-
 returns-3 : tie.Need-returns-3
 returns-3 c =
     let a = c .before .before .before .before .before .before .before .args in
@@ -29,5 +24,5 @@ put-field-spec =
     (λ c. let a = c .before .before .args in rw (lt-leb (a .at + 21) (length (a .buffer .now)) (omega (arith, c .if1 .taken))) (refl, refl))
     (λ c. search needs)
     (λ c. let a = c .before .before .before .args in rw (lt-leb (a .at + 21) (length (a .buffer .now)) (omega (arith, c .if2 .taken))) (refl, refl))
-    put-number-requires (λ c. search needs) (λ c. search needs)
-    returns-3)
+    (λ c κs. let a = c .before .before .before .before .args in omega (arith, field-length (a .number) (a .behind), numeral-length (a .number) .1))
+    (λ c. search needs) (λ c. search needs) returns-3)

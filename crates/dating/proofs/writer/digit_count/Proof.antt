@@ -14,19 +14,16 @@ Inv-loop number count₀ rest₀ count rest = (rest ≤ number) × (count + leng
 abbrev μ-loop : tie.MeasureT-loop
 μ-loop number count₀ rest₀ count rest = rest
 
-add-count : tie.Need-add-count Inv-loop μ-loop
-add-count c =
-    omega (arith, numeral-length (c .before .before .args .number) .1, numeral-length (c .before .loop .rest) .0, c .before .loop .inv)
-
 loop-again : tie.Need-loop-again Inv-loop μ-loop
 loop-again c =
     let inv = c .before .loop .inv in
     let l = more-length (c .before .loop .rest) (c .loop-test .taken) (omega (arith, inv .0, c .before .before .fits .number)) in
     (omega (arith, inv .0), omega (arith, inv .1))
 
-returns : tie.Need-returns Inv-loop μ-loop
-returns c = omega (arith, ap length (one-digit (c .before .loop .rest) (omega (arith, c .loop-test .left))), c .before .loop .inv)
-
 pub digit-count-spec : {M : Type 1} → statement M
 digit-count-spec =
-    tie.close (tie.spec Inv-loop μ-loop (λ c. search needs) add-count (λ c. search needs) loop-again returns)
+    tie.close
+    (tie.spec Inv-loop μ-loop (λ c. search needs)
+    (λ c. omega (arith, numeral-length (c .before .before .args .number) .1, numeral-length (c .before .loop .rest) .0, c .before .loop .inv))
+    (λ c. search needs) loop-again
+    (λ c. omega (arith, ap length (one-digit (c .before .loop .rest) (omega (arith, c .loop-test .left))), c .before .loop .inv)))

@@ -14,11 +14,6 @@ fits : (c : tie.Start)
     a .at + (length (field (a .day) point) + length (field (a .month) space) + length (field (a .named .year) space) + 1) ≤ length (a .buffer .now)
 fits c = rw (date-length (c .args .named) (c .args .month) (c .args .day)) at (c .pre)
 
-put-number-requires-2 : tie.Need-put-number-requires-2
-put-number-requires-2 c κs =
-    let day = c .before .before .before in
-    omega (arith, fits (day .before .before .before), put-length (day .put-number .ensures), day .put-number .ensures .behind)
-
 put-number-requires-3 : tie.Need-put-number-requires-3
 put-number-requires-3 c κs =
     let month = c .before .before .before in
@@ -46,6 +41,8 @@ pub put-date-spec : {M : Type 1} → statement M
 put-date-spec =
     tie.close
     (tie.spec
-    (λ c κs. omega (arith, fits (c .before .before))) put-number-requires-2 put-number-requires-3 (λ c κs. search needs)
+    (λ c κs. omega (arith, fits (c .before .before)))
+    (λ c κs. let day = c .before .before .before in omega (arith, fits (day .before .before .before), put-length (day .put-number .ensures)))
+    put-number-requires-3 (λ c κs. search needs)
     slice-write-buffer (λ c. omega (arith, slice-write-buffer c)) (λ c. put-length (returns c))
     returns)

@@ -18,14 +18,6 @@ its-date c =
     let start = c .before .before .before .before .before in
     date-day _ _ _ (start .pre .1) (rw (c .before .year .given .1) at (c .before .before .before .date-in-style .ensures))
 
-put-date-requires : tie.Need-put-date-requires
-put-date-requires c κs =
-    let few = twelve-bytes _ _ _ _ _ (its-date (c .before)) in
-    omega (arith, c .before .before .before .before .before .before .pre .0)
-
-returns : tie.Need-returns
-returns c = day-put _ _ _ _ _ (its-date (c .before .before .before .before)) (c .before .before .put-date .ensures)
-
 returns-2 : tie.Need-returns-2
 returns-2 c =
     let start = c .before .before .before .before in
@@ -34,4 +26,8 @@ returns-2 c =
 
 pub put-day-spec : {M : Type 1} → statement M
 put-day-spec =
-    tie.close (tie.spec (λ c κs. search needs) (λ c. search needs) put-date-requires (λ c. search needs) (λ c. search needs) returns returns-2)
+    tie.close
+    (tie.spec (λ c κs. search needs) (λ c. search needs)
+    (λ c κs. omega (arith, twelve-bytes _ _ _ _ _ (its-date (c .before)), c .before .before .before .before .before .before .pre .0))
+    (λ c. search needs) (λ c. search needs)
+    (λ c. day-put _ _ _ _ _ (its-date (c .before .before .before .before)) (c .before .before .put-date .ensures)) returns-2)
