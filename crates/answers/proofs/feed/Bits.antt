@@ -37,62 +37,66 @@ pub all-bytes : (s : List ℕ) → ((j : ℕ) → getD s j 0 < 256) → (i k n :
 all-bytes s b i k zero = tt
 all-bytes s b i k (suc n) = (b (i + k), all-bytes s b i (suc k) n)
 
--- what the code works out of n bytes that are packed
-abbrev other : ℕ → ℕ → ℕ
-other n x = bitXor x (times n lineFeed)
+-- what the code works out of n bytes that are packed, by the code's names
+abbrev differs : ℕ → ℕ → ℕ
+differs n x = bitXor x (times n lineFeed)
 
-abbrev some : ℕ → ℕ → ℕ
-some n x = bitOr (bitAnd (other n x) (times n 127) + times n 127) (other n x)
+abbrev lowDiffers : ℕ → ℕ → ℕ
+lowDiffers n x = bitAnd (differs n x) (times n 127) + times n 127
+
+abbrev anyDiffers : ℕ → ℕ → ℕ
+anyDiffers n x = bitOr (lowDiffers n x) (differs n x)
 
 abbrev pub bits : ℕ → ℕ → ℕ
-bits n x = bitAnd (times n 255 - some n x) (times n 128)
+bits n x = bitAnd (times n 255 - anyDiffers n x) (times n 128)
 
 -- ---- one byte
-abbrev lowSome : ℕ → ℕ
-lowSome c = bitAnd (bitXor c lineFeed) 127 + 127
+abbrev lowOf : ℕ → ℕ
+lowOf c = bitAnd (bitXor c lineFeed) 127 + 127
 
-abbrev someOf : ℕ → ℕ
-someOf c = bitOr (lowSome c) (bitXor c lineFeed)
+abbrev anyOf : ℕ → ℕ
+anyOf c = bitOr (lowOf c) (bitXor c lineFeed)
 
-bit : (c : ℕ) → c < 256 → bitAnd (255 - someOf c) 128 ≡ cond (eqb c lineFeed) 128 0
+bit : (c : ℕ) → c < 256 → bitAnd (255 - anyOf c) 128 ≡ cond (eqb c lineFeed) 128 0
 bit c h =
-    let test : ℕ → Bool = λ c. eqb (bitAnd (255 - someOf c) 128) (cond (eqb c lineFeed) 128 0) in
-    eqb-true (bitAnd (255 - someOf c) 128) (cond (eqb c lineFeed) 128 0) (is-true (test c) (below test 256 tt c h))
+    let test : ℕ → Bool = λ c. eqb (bitAnd (255 - anyOf c) 128) (cond (eqb c lineFeed) 128 0) in
+    eqb-true (bitAnd (255 - anyOf c) 128) (cond (eqb c lineFeed) 128 0) (is-true (test c) (below test 256 tt c h))
 
 -- ---- one byte more
 module _ (n x c : ℕ) (h : c < 256) where
   xor-small : bitXor c lineFeed < 256
   xor-small = xor-lt 8 c lineFeed h (omega arith)
 
-  low-small : lowSome c < 256
+  low-small : lowOf c < 256
   low-small = omega (arith, and-le-r (bitXor c lineFeed) 127)
 
-  some-small : someOf c < 256
-  some-small = or-lt 8 (lowSome c) (bitXor c lineFeed) low-small xor-small
+  any-small : anyOf c < 256
+  any-small = or-lt 8 (lowOf c) (bitXor c lineFeed) low-small xor-small
 
-  other-on : other (suc n) (x * 256 + c) ≡ other n x * 256 + bitXor c lineFeed
+  differs-on : differs (suc n) (x * 256 + c) ≡ differs n x * 256 + bitXor c lineFeed
   unfolding times
-  other-on = xor-block 8 x (times n lineFeed) c lineFeed h (omega arith)
+  differs-on = xor-block 8 x (times n lineFeed) c lineFeed h (omega arith)
 
-  some-on : some (suc n) (x * 256 + c) ≡ some n x * 256 + someOf c
+  any-differs-on : anyDiffers (suc n) (x * 256 + c) ≡ anyDiffers n x * 256 + anyOf c
   unfolding times
-  some-on =
-      let o = other n x in
+  any-differs-on =
+      let o = differs n x in
       let k = times n 127 in
       let both = and-block 8 o k (bitXor c lineFeed) 127 xor-small (omega arith) in
-      let sum : bitAnd o k * 256 + bitAnd (bitXor c lineFeed) 127 + (k * 256 + 127) ≡ (bitAnd o k + k) * 256 + lowSome c = omega arith in
-      rw (other-on, both, sum) (or-block 8 (bitAnd o k + k) o (lowSome c) (bitXor c lineFeed) low-small xor-small)
+      let sum : bitAnd o k * 256 + bitAnd (bitXor c lineFeed) 127 + (k * 256 + 127) ≡ (bitAnd o k + k) * 256 + lowOf c = omega arith in
+      rw (differs-on, both, sum) (or-block 8 (bitAnd o k + k) o (lowOf c) (bitXor c lineFeed) low-small xor-small)
 
-  bits-on : some n x ≤ times n 255 → bits (suc n) (x * 256 + c) ≡ bits n x * 256 + cond (eqb c lineFeed) 128 0
+  bits-on : anyDiffers n x ≤ times n 255 → bits (suc n) (x * 256 + c) ≡ bits n x * 256 + cond (eqb c lineFeed) 128 0
   unfolding times
   bits-on small =
-      let left : times n 255 * 256 + 255 - (some n x * 256 + someOf c) ≡ (times n 255 - some n x) * 256 + (255 - someOf c) = omega (arith, some-small) in
-      rw (some-on, left, ← bit c h) (and-block 8 (times n 255 - some n x) (times n 128) (255 - someOf c) 128 (omega arith) (omega arith))
+      let d = anyDiffers n x in
+      let left : times n 255 * 256 + 255 - (d * 256 + anyOf c) ≡ (times n 255 - d) * 256 + (255 - anyOf c) = omega (arith, any-small) in
+      rw (any-differs-on, left, ← bit c h) (and-block 8 (times n 255 - d) (times n 128) (255 - anyOf c) 128 (omega arith) (omega arith))
 
-all-small : (s : List ℕ) → AllBytes s → some (length s) (packed s) ≤ times (length s) 255
+all-small : (s : List ℕ) → AllBytes s → anyDiffers (length s) (packed s) ≤ times (length s) 255
 unfolding packed times
 all-small [] b = omega arith
-all-small (c ∷ s) b = rw (some-on (length s) (packed s) c (b .0)) (omega (arith, all-small s (b .1), some-small (length s) (packed s) c (b .0)))
+all-small (c ∷ s) b = rw (any-differs-on (length s) (packed s) c (b .0)) (omega (arith, all-small s (b .1), any-small (length s) (packed s) c (b .0)))
 
 -- so line feeds alone are 128
 pub bits-of-bytes : (s : List ℕ) → AllBytes s → bits (length s) (packed s) ≡ feedBits s
