@@ -9,13 +9,14 @@ use crate::words::{FIXED, HUNG, WEEKDAYS};
 const FIRST_DAY: u32 = 1721424;
 
 /// Each kind with its name.
-pub const KINDS: [(&str, fn(&mut Random) -> String); 6] = [
+pub const KINDS: [(&str, fn(&mut Random) -> String); 7] = [
     ("as in printed sources", source),
     ("a mix of all kinds", mixed),
     ("plain dates", date),
     ("feast words alone", feast),
     ("long chains of wrappers", chain),
     ("refused", refused),
+    ("chains with on or", chain_with_on_or),
 ];
 
 fn feast_word(random: &mut Random) -> &'static str {
@@ -33,13 +34,22 @@ fn day_month(random: &mut Random) -> String {
     format!("{}.{month}", random.among(1, last))
 }
 
-/// Any of the seventeen wrappers.
+/// Any of the seventeen wrappers without "on or".
 fn wrapper(random: &mut Random) -> String {
     match random.among(0, 16) {
         0 => "eve of".into(),
         1 => "morrow of".into(),
         2 => "octave of".into(),
         _ => format!("{} {}", random.one_of(&WEEKDAYS), random.one_of(&["after", "before"])),
+    }
+}
+
+/// Any of the thirty-one wrappers.
+fn any_wrapper(random: &mut Random) -> String {
+    if random.among(0, 30) < 17 {
+        wrapper(random)
+    } else {
+        format!("{} on or {}", random.one_of(&WEEKDAYS), random.one_of(&["after", "before"]))
     }
 }
 
@@ -89,8 +99,8 @@ fn feast(random: &mut Random) -> String {
     format!("{} {}", feast_word(random), year(random))
 }
 
-/// As many wrappers as find room before a feast or date.
-fn chain(random: &mut Random) -> String {
+/// As many wrappers of a kind as find room before a feast or date.
+fn chain_of(wrapper: fn(&mut Random) -> String, random: &mut Random) -> String {
     let mut line = if random.percent(50) { date(random) } else { feast(random) };
     loop {
         let longer = format!("{} {line}", wrapper(random));
@@ -99,6 +109,14 @@ fn chain(random: &mut Random) -> String {
         }
         line = longer;
     }
+}
+
+fn chain(random: &mut Random) -> String {
+    chain_of(wrapper, random)
+}
+
+fn chain_with_on_or(random: &mut Random) -> String {
+    chain_of(any_wrapper, random)
 }
 
 fn mixed(random: &mut Random) -> String {

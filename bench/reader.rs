@@ -1,9 +1,9 @@
 //! A plain reader of lines, written for speed, which the library is measured against. It goes once over a line, from left to right, and
 //! looks for a line feed only where the line is refused. A wrapper or feast word is told by one look into the table of words: its first
-//! bytes multiplied are its slot, and all of it is compared as one number. A year too is read as one number. Days come from closed forms,
-//! the same for every feast.
+//! bytes multiplied are its slot, and all of it is compared as one number, but for the space behind "mon on or before". A year too is read
+//! as one number. Days come from closed forms, the same for every feast.
 
-use crate::words::{Place, STAY, Step, WORDS, Word, place, slot};
+use crate::words::{Place, STAY, Step, WORDS, Word, back, place, slot};
 
 /// The most bytes of a line.
 pub const LONGEST_LINE: usize = 120;
@@ -24,6 +24,16 @@ const GREGORIAN: (u32, u32) = (2299161, 5373484 - 2299161);
 
 /// Days of each month in a common year, by its number.
 static LENGTHS: [u32; 13] = [0, 31, 28, 31, 30, 31, 30, 31, 31, 30, 31, 30, 31];
+
+/// How many bytes the wrappers have, each number at the place that the sum of a wrapper's sixth and seventh bytes tells; "on or before" has
+/// that of "on or after".
+const WRAPPER_LENGTHS: u32 =
+    length_at(b"f ", 7) | length_at(b"w ", 10) | length_at(b"e ", 10) | length_at(b"ft", 10) | length_at(b"ef", 11) | length_at(b"n ", 16);
+
+/// The length in four bits at its place; four is taken from each, since then the bits that two of them share are the same.
+const fn length_at(told: &[u8; 2], length: u32) -> u32 {
+    (length - 4) << ((told[0] + told[1]) % 32)
+}
 
 /// The day or the refusal of a line, whether its style is the Gregorian, and its end.
 type Told = (u32, bool, usize);
@@ -65,12 +75,10 @@ fn before_first(byte: u8, text: u128) -> u32 {
     (other.wrapping_sub(ONES) & !other & (ONES << 7)).trailing_zeros() / 8
 }
 
-/// How many bytes the wrapper at a text's start has, told by two of them, so that the next word need not wait for the table.
-fn wrapper_length(text: u64) -> usize {
-    let told = (text >> 24) as u16;
-    let is_eve = told == u16::from_le_bytes(*b" o");
-    let is_before = told == u16::from_le_bytes(*b" b");
-    "mon after ".len() + usize::from(is_before) - 3 * usize::from(is_eve)
+/// How many bytes the wrapper at a text's start has, told by four of them, so that the next word need not wait for the table.
+fn wrapper_length(text: u128) -> usize {
+    let told = ((text >> 40) as u32).wrapping_add((text >> 48) as u32);
+    4 + (WRAPPER_LENGTHS.wrapping_shr(told) & 15) as usize + back(text) as usize
 }
 
 /// A number of one or two digits at a text's start, the first not 0, and how many bits they have; 0 where there is none.
@@ -163,7 +171,7 @@ fn day(wrappers: &[u8], anchor: Anchor, year: u32, gregorian: bool) -> u32 {
         outside |= day.wrapping_sub(first) > more;
     };
     take(step);
-    wrappers.iter().rev().for_each(|&slot| take(&WORDS[usize::from(slot) % 128].step));
+    wrappers.iter().rev().for_each(|&slot| take(&WORDS[usize::from(slot)].step));
     if outside { SPAN } else { day }
 }
 
@@ -187,7 +195,7 @@ pub fn line(page: &[u8], start: usize) -> Told {
     let mut at = start;
     let anchor = loop {
         let text = sixteen(page, at);
-        let slot = slot(text as u64);
+        let slot = slot(text);
         let word = &WORDS[slot];
         if text & word.mask != word.text {
             let Some((day, month, length)) = date(text as u64) else {
@@ -205,7 +213,10 @@ pub fn line(page: &[u8], start: usize) -> Told {
         }
         wrappers[count] = slot as u8;
         count += 1;
-        at += wrapper_length(text as u64);
+        at += wrapper_length(text);
+        if page.get(at - 1) != Some(&b' ') {
+            return refused(page, start, at - 1);
+        }
     };
     let Some(Ending { year, gregorian, length }) = ending(sixteen(page, at) as u64) else {
         return refused(page, start, at);

@@ -20,7 +20,7 @@ pub struct Place {
 #[derive(Clone, Copy)]
 #[repr(align(64))]
 pub struct Word {
-    /// The bytes, with the space behind them, the first the lowest.
+    /// The bytes, with the space behind them, the first the lowest; of seventeen the last is left out.
     pub text: u128,
     pub mask: u128,
     pub length: u8,
@@ -32,7 +32,7 @@ pub struct Word {
 }
 
 /// As many words as slots.
-pub type Words = [Word; 128];
+pub type Words = [Word; 256];
 
 pub static WORDS: Words = words();
 
@@ -135,11 +135,17 @@ pub const fn place(day: i32, month: u32) -> Place {
     Place { early: month < 3, days: (behind_february - 306) as i16 }
 }
 
-/// The slot of the word at a text's start. Five bytes tell it, and of the sixth, where it is a letter, one bit, for matthias and matthew;
-/// the factor was found by trial.
-pub const fn slot(text: u64) -> usize {
-    let key = (text & 0xff_ffff_ffff) | (text & (text >> 3) & (0x08 << 40));
-    (key.wrapping_mul(0xaee7_52df_e309_13af) >> 57) as usize
+/// 1 for a weekday and "on or before" at a text's start, 0 for every other word.
+pub const fn back(text: u128) -> u64 {
+    let is_on = (text >> 32) as u16 == u16::from_le_bytes(*b"on");
+    is_on as u64 & (text >> 81) as u64
+}
+
+/// The slot of the word at a text's start. Five bytes tell it, and a bit of the sixth, for matthias and matthew; "on or before" has the one
+/// beside that of "on or after". The factor was found by trial.
+pub const fn slot(text: u128) -> usize {
+    let key = text as u64 & 0x08ff_ffff_ffff;
+    ((key.wrapping_mul(0x6566_14e8_05ec_13f9) >> 56) ^ back(text)) as usize
 }
 
 /// A word of two parts that means nothing yet.
@@ -148,8 +154,10 @@ const fn word(first: &str, second: &str) -> Word {
     let mut length = 0;
     while length < first.len() + second.len() {
         let byte = if length < first.len() { first.as_bytes()[length] } else { second.as_bytes()[length - first.len()] };
-        word.text |= (byte as u128) << (8 * length);
-        word.mask |= 0xff << (8 * length);
+        if length < 16 {
+            word.text |= (byte as u128) << (8 * length);
+            word.mask |= 0xff << (8 * length);
+        }
         length += 1;
     }
     word.length = length as u8;
@@ -161,15 +169,20 @@ const fn wrapper(first: &str, second: &str, step: Step) -> Word {
 }
 
 /// The words and one more, in a slot that no other has.
-const fn with(mut words: Words, word: Word) -> Words {
-    let slot = slot(word.text as u64);
+const fn with_slot(mut words: Words, slot: usize, word: Word) -> Words {
     assert!(words[slot].length == 0, "two words have one slot");
     words[slot] = word;
     words
 }
 
+/// The words and one more; one of four letters has two slots, since its sixth byte is a digit of the year.
+const fn with(words: Words, word: Word) -> Words {
+    let words = with_slot(words, slot(word.text), word);
+    if word.length == 5 { with_slot(words, slot(word.text | (0x08 << 40)), word) } else { words }
+}
+
 const fn words() -> Words {
-    let mut words = [NO_WORD; 128];
+    let mut words = [NO_WORD; 256];
     words = with(words, wrapper("eve", " of ", by_days(-1)));
     words = with(words, wrapper("morrow", " of ", by_days(1)));
     words = with(words, wrapper("octave", " of ", by_days(7)));
@@ -177,6 +190,8 @@ const fn words() -> Words {
     while i < WEEKDAYS.len() {
         words = with(words, wrapper(WEEKDAYS[i], " after ", to_weekday(i as i32, 1, 0)));
         words = with(words, wrapper(WEEKDAYS[i], " before ", to_weekday(i as i32, -7, 0)));
+        words = with(words, wrapper(WEEKDAYS[i], " on or after ", to_weekday(i as i32, 0, 0)));
+        words = with(words, wrapper(WEEKDAYS[i], " on or before ", to_weekday(i as i32, -6, 0)));
         i += 1;
     }
     i = 0;

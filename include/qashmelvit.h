@@ -37,15 +37,17 @@
  *
  *     line      phrase year style
  *     phrase    a feast word, or a date, or a wrapper before a phrase
- *     wrapper   eve of | morrow of | octave of | weekday after | weekday before
+ *     wrapper   eve of | morrow of | octave of | weekday side
  *     weekday   mon | tue | wed | thu | fri | sat | sun
+ *     side      after | before | on or after | on or before
  *     date      day.month                 1 to 31 and 1 to 12, without leading zeros
  *     year      1 to 4 digits, the first not 0
  *     style     J | G
  *
  * The feast or date is taken in the named year; then each wrapper acts, the innermost first. Eve is one day earlier, morrow one later,
- * octave seven later; after is the first such weekday strictly later, before strictly earlier. Every day on the way must lie in the
- * span; the last may fall in another year than the one named.
+ * octave seven later; after is the first such weekday strictly later, before strictly earlier; with "on or" the starting day counts too,
+ * so that a feast on that weekday answers itself. Every day on the way must lie in the span; the last may fall in another
+ * year than the one named.
  *
  * Feast words with their numbers, and with their days from Easter or their day.month:
  *
@@ -101,6 +103,7 @@ extern "C" {
  *
  *     qv_line((const uint8_t *)"tue after quasimodo 1587 G", 26) == 2300796
  *     qv_line((const uint8_t *)"tue after quasimodo 1587 J", 26) == 2300824
+ *     qv_line((const uint8_t *)"tue on or after martin 1589 J", 29) == 2301755
  *     qv_line((const uint8_t *)"matthias 1900 J", 15) == 2415088
  *     qv_line((const uint8_t *)"25.2 1900 J", 11) == 2415088
  *     qv_line((const uint8_t *)"29.2 1900 G", 11) == QV_DATE

@@ -13,7 +13,7 @@ pub type Line = Vec<u8>;
 const YEARS: [i32; 16] = [1, 4, 1225, 1581, 1582, 1583, 1587, 1810, 1818, 1900, 1943, 1954, 1981, 2000, 2025, 9999];
 
 /// Accepted lines, from which other kinds make bad ones; they hold every wrapper word.
-pub const GOOD: [&str; 12] = [
+pub const GOOD: [&str; 14] = [
     "easter 1225 J",
     "29.2 1900 J",
     "1.1 1 J",
@@ -26,6 +26,8 @@ pub const GOOD: [&str; 12] = [
     "sat before thu after matthias 2000 G",
     "fri after morrow of mon before advent 1582 G",
     "sun before octave of eve of 7.4 25 J",
+    "tue on or after martin 1587 J",
+    "sun on or before 1.1 2025 G",
 ];
 
 /// The first and last days of the spans: the day at the end, the way into the span, and what follows the day.
@@ -33,7 +35,7 @@ const ENDS: [(i32, i32, &str); 4] =
     [(1, 1, ".1 1 J"), (31, -1, ".12 9999 J"), (15, 1, ".10 1582 G"), (31, -1, ".12 9999 G")];
 
 /// Every kind of line, in the order of printing.
-const KINDS: [fn(&mut Corpus); 37] = [
+const KINDS: [fn(&mut Corpus); 48] = [
     good,
     feasts,
     wrapped_feasts,
@@ -71,6 +73,17 @@ const KINDS: [fn(&mut Corpus); 37] = [
     no_anchor,
     random,
     matthias,
+    on_or_from_fixed_feasts,
+    on_or_from_moving_feasts,
+    on_or_from_dates,
+    on_or_in_pairs,
+    on_or_out_of_the_span,
+    on_or_from_lost_days,
+    on_or_about_the_longest,
+    misspelt_on_or,
+    wrong_words_with_on_or,
+    on_or_words_in_every_order,
+    random_with_on_or,
 ];
 
 /// The lines in the order in which they came first.
@@ -89,14 +102,24 @@ impl Corpus {
     }
 }
 
-/// The fourteen wrappers of a weekday.
+/// The fourteen wrappers of a weekday for which the starting day does not count.
 fn weekday_wrappers() -> impl Iterator<Item = String> {
     WEEKDAYS.iter().flat_map(|weekday| [format!("{weekday} after"), format!("{weekday} before")])
 }
 
-/// All seventeen wrappers.
+/// The fourteen wrappers of a weekday for which it counts.
+fn on_or_wrappers() -> impl Iterator<Item = String> {
+    WEEKDAYS.iter().flat_map(|weekday| [format!("{weekday} on or after"), format!("{weekday} on or before")])
+}
+
+/// The seventeen wrappers without "on or".
 fn wrappers() -> Vec<String> {
     ["eve of", "morrow of", "octave of"].map(String::from).into_iter().chain(weekday_wrappers()).collect()
+}
+
+/// All thirty-one wrappers.
+pub fn all_wrappers() -> Vec<String> {
+    wrappers().into_iter().chain(on_or_wrappers()).collect()
 }
 
 /// The good lines themselves.
@@ -113,7 +136,7 @@ fn feasts(corpus: &mut Corpus) {
     }
 }
 
-/// Every wrapper before every feast.
+/// Every wrapper without "on or" before every feast.
 fn wrapped_feasts(corpus: &mut Corpus) {
     for wrapper in wrappers() {
         for feast in words() {
@@ -124,7 +147,7 @@ fn wrapped_feasts(corpus: &mut Corpus) {
     }
 }
 
-/// Every wrapper before dates at the ends of months, among them dates that are none.
+/// Every wrapper without "on or" before dates at the ends of months, among them dates that are none.
 fn wrapped_dates(corpus: &mut Corpus) {
     for wrapper in wrappers() {
         for date in ["1.1", "28.2", "29.2", "31.2", "1.3", "30.6", "31.12"] {
@@ -135,9 +158,9 @@ fn wrapped_dates(corpus: &mut Corpus) {
     }
 }
 
-/// Every weekday after and before each day of a week, inside a month and at its end.
+/// Every weekday after and before each day of a week, inside a month and at its end, where that day counts and where it does not.
 fn weekdays_from_each_weekday(corpus: &mut Corpus) {
-    for wrapper in weekday_wrappers() {
+    for wrapper in weekday_wrappers().chain(on_or_wrappers()) {
         for style in STYLES {
             (10..17).for_each(|day| corpus.add(format!("{wrapper} {day}.3 2024 {style}")));
             (25..32).for_each(|day| corpus.add(format!("{wrapper} {day}.12 1999 {style}")));
@@ -150,15 +173,15 @@ fn span_ends(corpus: &mut Corpus) {
     for (end, way, rest) in ENDS {
         for day in (0..8).map(|days| end + way * days) {
             corpus.add(format!("{day}{rest}"));
-            wrappers().iter().for_each(|wrapper| corpus.add(format!("{wrapper} {day}{rest}")));
+            all_wrappers().iter().for_each(|wrapper| corpus.add(format!("{wrapper} {day}{rest}")));
         }
     }
     for feast in ["circumcision 1 J", "epiphany 1 J", "christmas 9999 J", "christmas 9999 G", "luke 1582 G"] {
-        wrappers().iter().for_each(|wrapper| corpus.add(format!("{wrapper} {feast}")));
+        all_wrappers().iter().for_each(|wrapper| corpus.add(format!("{wrapper} {feast}")));
     }
 }
 
-/// Every pair of wrappers on the outermost day at each end of the spans; many leave the span and come back.
+/// Every pair of wrappers without "on or" on the outermost day at each end of the spans; many leave the span and come back.
 fn pairs_at_span_ends(corpus: &mut Corpus) {
     for (end, _, rest) in ENDS {
         for outer in wrappers() {
@@ -179,7 +202,7 @@ fn out_and_back(corpus: &mut Corpus) {
     }
 }
 
-/// Every pair of wrappers far from the ends of the spans.
+/// Every pair of wrappers without "on or" far from the ends of the spans.
 fn pairs(corpus: &mut Corpus) {
     for outer in wrappers() {
         for inner in wrappers() {
@@ -191,7 +214,7 @@ fn pairs(corpus: &mut Corpus) {
 
 /// Each wrapper said over and over, until the line is too long.
 fn repeated(corpus: &mut Corpus) {
-    for wrapper in wrappers() {
+    for wrapper in all_wrappers() {
         for rest in ["easter 2025 G", "24.2 1900 J"] {
             let most = 130 / wrapper.len();
             (1..=most).for_each(|count| corpus.add(format!("{}{rest}", format!("{wrapper} ").repeat(count))));
@@ -288,7 +311,7 @@ fn several_refusals(corpus: &mut Corpus) {
     }
 }
 
-/// 5 to 14 October 1582 behind every wrapper, in G before the span even where the wrapper ends in it.
+/// 5 to 14 October 1582 behind every wrapper without "on or", in G before the span even where the wrapper ends in it.
 fn lost_days(corpus: &mut Corpus) {
     for wrapper in wrappers() {
         for style in STYLES {
@@ -406,7 +429,7 @@ fn misspelt_feasts(corpus: &mut Corpus) {
     }
 }
 
-/// Every wrapper misspelt.
+/// Every wrapper without "on or" misspelt.
 fn misspelt_wrappers(corpus: &mut Corpus) {
     for wrapper in wrappers() {
         misspellings(&wrapper).into_iter().for_each(|words| corpus.add([&words[..], b" easter 1225 J"].concat()));
@@ -419,8 +442,8 @@ fn wrong_words(corpus: &mut Corpus) {
         octave after 1.1,eve of of easter,eve eve of easter,mon after after easter,mon mon after easter,mon tue after easter,\
         mon after of easter,eve of after easter,of eve easter,after mon easter,easter eve of,easter of eve,easter mon after,\
         easter easter,easter 1.1,1.1 easter,1.1 1.1,easter palms,easter sun,sun,of,after,before,eve,morrow,octave,eve of,\
-        mon after,sun before,eve of mon,mon after eve,eve of morrow,on or after easter,mon on or after easter,\
-        sun on or before 1.1,mon or after easter,mon on easter,ann,pasch,M,O,J,G,eve of ann,mon after pasch,M easter,O of easter,\
+        mon after,sun before,eve of mon,mon after eve,eve of morrow,on or after easter,\
+        mon or after easter,mon on easter,ann,pasch,M,O,J,G,eve of ann,mon after pasch,M easter,O of easter,\
         eve of M,monday after easter,m after easter,moon after easter,day after easter,vigil of easter,the eve of easter,\
         eve of the easter,in octave of easter,octaves of easter,feast of easter,saint martin,st martin,all saints,\
         corpus christi,palm sun,good fri,ash wed,1 january,1st of 1,2 after easter,easter day,easter and palms,\
@@ -491,7 +514,7 @@ fn blanks(corpus: &mut Corpus) {
 
 /// Chains of wrappers before a year and style, with no feast or date between, with and without a space for it.
 fn no_anchor(corpus: &mut Corpus) {
-    for wrapper in wrappers() {
+    for wrapper in all_wrappers() {
         for count in 1..=3 {
             let chain = format!("{wrapper} ").repeat(count);
             corpus.add(format!("{chain}2025 G"));
@@ -515,11 +538,10 @@ impl Numbers {
     }
 }
 
-/// A phrase of up to twelve wrappers, with a year and a style; one year in three is at a bound.
-pub fn random_line(numbers: &mut Numbers) -> String {
-    let wrappers = wrappers();
+/// A phrase of up to twelve of these wrappers, with a year and a style; one year in three is at a bound.
+pub fn random_line(numbers: &mut Numbers, wrappers: &[String]) -> String {
     let count = numbers.below(13);
-    let mut line: String = (0..count).map(|_| numbers.one_of(&wrappers) + " ").collect();
+    let mut line: String = (0..count).map(|_| numbers.one_of(wrappers) + " ").collect();
     line += &match numbers.below(2) {
         0 => numbers.one_of(&words().collect::<Vec<_>>()).to_string(),
         _ => format!("{}.{}", 1 + numbers.below(31), 1 + numbers.below(12)),
@@ -550,17 +572,21 @@ pub fn random_edit(mut line: Line, numbers: &mut Numbers) -> Line {
     line
 }
 
-/// Lines by chance, one in four of them with an edit.
-fn random(corpus: &mut Corpus) {
-    let mut numbers = Numbers(1582);
-    for _ in 0..4000 {
-        let line: Line = random_line(&mut numbers).into();
+/// So many lines by chance with these wrappers, one in four of them with an edit.
+fn random_lines(corpus: &mut Corpus, mut numbers: Numbers, count: usize, wrappers: &[String]) {
+    for _ in 0..count {
+        let line: Line = random_line(&mut numbers, wrappers).into();
         let edit = numbers.below(4) == 0;
         corpus.add(if edit { random_edit(line, &mut numbers) } else { line });
     }
 }
 
-/// Matthias and the dates about him, and every wrapper before him and before 24.2, in years that are leap in both styles, in one and in none.
+/// Lines by chance without "on or".
+fn random(corpus: &mut Corpus) {
+    random_lines(corpus, Numbers(1582), 4000, &wrappers());
+}
+
+/// Matthias and the dates about him, and wrappers before him and before 24.2, in years that are leap in both styles, in one and in none.
 fn matthias(corpus: &mut Corpus) {
     for year in [3, 4, 100, 1500, 1582, 1583, 1584, 1600, 1700, 1900, 2000, 2100, 9996, 9999] {
         for style in STYLES {
@@ -572,6 +598,127 @@ fn matthias(corpus: &mut Corpus) {
             }
         }
     }
+}
+
+/// Every wrapper with "on or" before Martin, in years in which he has each weekday in either style.
+fn on_or_from_fixed_feasts(corpus: &mut Corpus) {
+    for wrapper in on_or_wrappers() {
+        for year in [1583, 1584, 1585, 1586, 1587, 1589, 1593] {
+            STYLES.iter().for_each(|style| corpus.add(format!("{wrapper} martin {year} {style}")));
+        }
+    }
+}
+
+/// Every wrapper with "on or" before feasts that keep their weekday, in the styles by turns.
+fn on_or_from_moving_feasts(corpus: &mut Corpus) {
+    let feasts = "easter advent palms quasimodo pentecost trinity septuagesima ashes cena parasceve ascension corpus";
+    for (turn, wrapper) in on_or_wrappers().enumerate() {
+        for (place, feast) in feasts.split(' ').enumerate() {
+            corpus.add(format!("{wrapper} {feast} {}", ["2025 G", "1225 J"][(turn / 2 + place) % 2]));
+        }
+    }
+}
+
+/// Every wrapper with "on or" before dates at the ends of months, and before Matthias, in a leap year and a common one.
+fn on_or_from_dates(corpus: &mut Corpus) {
+    for wrapper in on_or_wrappers() {
+        for anchor in ["1.1", "24.2", "matthias", "29.2", "1.3", "31.12"] {
+            ["1900 J", "1900 G"].iter().for_each(|year| corpus.add(format!("{wrapper} {anchor} {year}")));
+        }
+    }
+}
+
+/// Every pair of wrappers of which one or both have "on or", on a feast and on a date by turns.
+fn on_or_in_pairs(corpus: &mut Corpus) {
+    let wrappers = all_wrappers();
+    for (turn, outer) in wrappers.iter().enumerate() {
+        for (place, inner) in wrappers.iter().enumerate() {
+            let pair = format!("{outer} {inner}");
+            if pair.contains(" on or ") {
+                corpus.add(format!("{pair} {}", ["ascension 1225 J", "29.2 2000 G"][(turn + place) % 2]));
+            }
+        }
+    }
+}
+
+/// Every weekday on the outermost day at each end of the spans or beyond it, twice, and before and behind a wrapper of days.
+fn on_or_out_of_the_span(corpus: &mut Corpus) {
+    for (end, way, rest) in ENDS {
+        for weekday in WEEKDAYS {
+            let out = format!("{weekday} on or {}", if way > 0 { "before" } else { "after" });
+            corpus.add(format!("{out} {out} {end}{rest}"));
+            for days in ["eve of", "morrow of", "octave of"] {
+                corpus.add(format!("{out} {days} {end}{rest}"));
+                corpus.add(format!("{days} {out} {end}{rest}"));
+            }
+        }
+    }
+}
+
+/// Days before the span of G behind every wrapper with "on or", even where the wrapper ends in the span.
+fn on_or_from_lost_days(corpus: &mut Corpus) {
+    for wrapper in on_or_wrappers() {
+        [8, 14].iter().for_each(|day| corpus.add(format!("{wrapper} {day}.10 1582 G")));
+    }
+}
+
+/// Lines of 118 to 122 bytes that the grammar produces, with one wrapper with "on or" to five.
+fn on_or_about_the_longest(corpus: &mut Corpus) {
+    for (anchor, wrapper) in [("easter", "sat on or after "), ("28.2", "thu on or before ")] {
+        for (count, length) in (1..=5).flat_map(|count| (118..=122).map(move |length| (count, length))) {
+            let repeated = wrapper.repeat(count);
+            let rest = length - repeated.len() - anchor.len() - " 2025 G".len();
+            chains(rest).take(1).for_each(|chain| corpus.add(format!("{repeated}{chain}{anchor} 2025 G")));
+            chains(rest).last().into_iter().for_each(|chain| corpus.add(format!("{chain}{repeated}{anchor} 1225 J")));
+        }
+    }
+}
+
+/// "on or after" and "on or before" behind several weekdays, misspelt.
+fn misspelt_on_or(corpus: &mut Corpus) {
+    for weekday in ["mon", "thu", "sun"] {
+        for words in [" on or after ", " on or before "].into_iter().flat_map(misspellings) {
+            corpus.add([weekday.as_bytes(), &words, b"luke 2025 G"].concat());
+        }
+    }
+}
+
+/// Phrases with words of "on or after" and "on or before" that are too many or too few, exchanged, joined, parted or in another place.
+fn wrong_words_with_on_or(corpus: &mut Corpus) {
+    let phrases = "on or before easter,mon on or easter,mon on after easter,mon or before easter,mon onor after easter,\
+        mon on orafter easter,mon onorafter easter,monon or after easter,mononorafter easter,mon on or aftereaster,\
+        mon or on after easter,mon on or or after easter,mon on on or after easter,mon on or on or after easter,\
+        mon no or after easter,mon on ro after easter,mon on or after after easter,mon on or after before easter,\
+        mon on or after on or before easter,mon on or after on or easter,mon after on or easter,mon after or on easter,\
+        mon after or before easter,mon after on or before easter,mon on or of easter,mon on or eve of easter,\
+        mon on or tue after easter,mon on or tue on or after easter,mon tue on or after easter,mon mon on or after easter,\
+        mon on or after mon easter,on mon or after easter,on or mon after easter,mon on or after of easter,mon of on or after easter,\
+        mon in or after easter,mon on and after easter,mon on or afterwards easter,mon on or since easter,mon on or by easter,\
+        monday on or after easter,m on or after easter,day on or after easter,the mon on or after easter,mon on or after the easter,\
+        eve on or of easter,eve on or after easter,eve on or before 1.1,eve of on or after easter,eve of on or easter,\
+        on or eve of easter,on eve of easter,or eve of easter,morrow on or of easter,morrow on or after easter,\
+        morrow of on or after easter,morrow of on or easter,octave on or of easter,octave on or before 1.1,\
+        octave of on or before 1.1,easter on or after,easter on or after mon,easter mon on or after,1.1 on or before sun,\
+        on,or,on or,or on,mon on,mon or,mon on or,mon on or after,mon on or before,mon on or after eve,mon on or after eve of,\
+        On or after easter,mon On or after easter,mon on Or after easter,mon on or After easter,mon ON OR AFTER easter,\
+        mon on or BEFORE 1.1,mon  on or after easter,mon on  or after easter,mon on or  after easter,mon on or after  easter,\
+        mon\ton or after easter,mon on\tor after easter,mon on or\tafter easter,mon on or after\teaster, on or after easter,\
+        mon on-or after easter,mon on/or after easter,mon on.or.after easter,mon.on or after easter,mon on or-after easter";
+    for phrase in phrases.split(',') {
+        corpus.add(format!("{phrase} 2025 G"));
+        corpus.add(format!("sun on or after {phrase} 1225 J"));
+    }
+}
+
+/// The words of "on or after" behind a weekday in every order, up to four, before a good end.
+fn on_or_words_in_every_order(corpus: &mut Corpus) {
+    let phrases = (1..=4).flat_map(|count| sequences(&["mon", "on", "or", "after"], count));
+    phrases.for_each(|phrase| corpus.add(format!("{phrase} laetare 1954 G")));
+}
+
+/// Lines by chance with all wrappers.
+fn random_with_on_or(corpus: &mut Corpus) {
+    random_lines(corpus, Numbers(1590), 150, &all_wrappers());
 }
 
 /// The lines of all kinds.

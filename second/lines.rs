@@ -1,6 +1,6 @@
 //! Dating lines, read from their end: the line is cut at its spaces; its last three words are anchor, year and style; and the
-//! words before those are taken from the right in pairs, each pair a wrapper. So the innermost wrapper comes first, and no phrase
-//! is read inside another. A weekday is looked for day by day.
+//! words before those are taken from the right, two for each wrapper, or four where it has "on or". So the innermost wrapper
+//! comes first, and no phrase is read inside another. A weekday is looked for day by day.
 
 use crate::days::{Answer, Date, date_of_day, day_of_date, in_span, style, weekday};
 use crate::feasts::{day_of_feast, words};
@@ -22,10 +22,10 @@ enum Anchor {
     DayMonth(i128, i128),
 }
 
-/// A move by a number of days, or by single steps of a day, at least one, up to a weekday.
+/// A move by a number of days, or by single steps of a day up to a weekday, with none where the start counts and is of that weekday.
 enum Wrapper {
     Days(i128),
-    Weekday { step: i128, weekday: i128 },
+    Weekday { step: i128, weekday: i128, start_counts: bool },
 }
 
 /// What a line of the right form says.
@@ -62,22 +62,37 @@ fn anchor(word: &[u8]) -> Option<Anchor> {
     }
 }
 
-/// One wrapper, which is two words.
-fn wrapper(pair: &[&[u8]]) -> Option<Wrapper> {
-    match *pair {
-        [b"eve", b"of"] => Some(Wrapper::Days(-1)),
-        [b"morrow", b"of"] => Some(Wrapper::Days(1)),
-        [b"octave", b"of"] => Some(Wrapper::Days(7)),
-        [word, side] => {
-            let weekday = place(word, WEEKDAYS.into_iter())?;
-            match side {
-                b"after" => Some(Wrapper::Weekday { step: 1, weekday }),
-                b"before" => Some(Wrapper::Weekday { step: -1, weekday }),
-                _ => None,
-            }
-        }
+/// The wrapper of a weekday's word and a side.
+fn to_weekday(word: &[u8], side: &[u8], start_counts: bool) -> Option<Wrapper> {
+    let weekday = place(word, WEEKDAYS.into_iter())?;
+    match side {
+        b"after" => Some(Wrapper::Weekday { step: 1, weekday, start_counts }),
+        b"before" => Some(Wrapper::Weekday { step: -1, weekday, start_counts }),
         _ => None,
     }
+}
+
+/// The wrapper in which the words end, and the words before it.
+fn last_wrapper<'a, 'b>(words: &'a [&'b [u8]]) -> Option<(Wrapper, &'a [&'b [u8]])> {
+    match *words {
+        [ref before @ .., b"eve", b"of"] => Some((Wrapper::Days(-1), before)),
+        [ref before @ .., b"morrow", b"of"] => Some((Wrapper::Days(1), before)),
+        [ref before @ .., b"octave", b"of"] => Some((Wrapper::Days(7), before)),
+        [ref before @ .., word, b"on", b"or", side] => Some((to_weekday(word, side, true)?, before)),
+        [ref before @ .., word, side] => Some((to_weekday(word, side, false)?, before)),
+        _ => None,
+    }
+}
+
+/// The wrappers that the words are, the innermost first.
+fn wrappers(mut words: &[&[u8]]) -> Option<Vec<Wrapper>> {
+    let mut wrappers = vec![];
+    while !words.is_empty() {
+        let (wrapper, before) = last_wrapper(words)?;
+        wrappers.push(wrapper);
+        words = before;
+    }
+    Some(wrappers)
 }
 
 /// The line's parts, or nothing where the grammar does not produce it.
@@ -85,7 +100,7 @@ fn parsed(line: &[u8]) -> Option<Parsed> {
     let cut: Vec<&[u8]> = line.split(|&byte| byte == b' ').collect();
     match &cut[..] {
         [before @ .., named, year, letter] => Some(Parsed {
-            wrappers: before.rchunks(2).map(wrapper).collect::<Option<_>>()?,
+            wrappers: wrappers(before)?,
             anchor: anchor(named)?,
             year: number(year, 9999)?,
             style: place(letter, STYLES.into_iter())?,
@@ -99,8 +114,8 @@ fn parsed(line: &[u8]) -> Option<Parsed> {
 fn moved(day: i128, wrapper: &Wrapper) -> i128 {
     match *wrapper {
         Wrapper::Days(days) => day + days,
-        Wrapper::Weekday { step, weekday: wanted } => {
-            let mut found = day + step;
+        Wrapper::Weekday { step, weekday: wanted, start_counts } => {
+            let mut found = if start_counts { day } else { day + step };
             while weekday(found) != wanted {
                 found += step;
             }

@@ -1,7 +1,7 @@
 //! Pages of dating lines, good and bad, for readers of pages to be compared by, each with the number of bytes that are lent for
 //! places. Each kind of page is a function here, and a case that several kinds make is printed once. The answers are no part of it.
 
-use crate::corpus::{GOOD, Line, Numbers, lines, random_edit, random_line};
+use crate::corpus::{GOOD, Line, Numbers, all_wrappers, lines, random_edit, random_line};
 use crate::lines::day_or_refusal;
 use crate::pages::{LONGEST, PLACE, lines_of};
 use crate::stored::{Repeated, Stored, filled, lengths_about, strings};
@@ -154,8 +154,9 @@ fn lengths_of_lines(pages: &mut Stored) {
 
 /// Lines of 118 to 123 bytes that the grammar produces, alone, with a carriage return, and before and behind others.
 fn good_lines_about_the_longest(pages: &mut Stored) {
-    for anchor in LONG {
-        let line = format!("eve of {}{anchor}", "octave of ".repeat(10));
+    let chains =
+        ["eve of ".to_string() + &"octave of ".repeat(10), "sun before ".repeat(2) + &"sun on or before ".repeat(5)];
+    for line in chains.iter().flat_map(|chain| LONG.map(|anchor| format!("{chain}{anchor}"))) {
         for page in [
             line.clone(),
             format!("{line}\n"),
@@ -308,7 +309,7 @@ fn random_bytes(pages: &mut Stored) {
 /// A line by chance: a good one, a refused one, a blank, or bytes.
 fn random_page_line(numbers: &mut Numbers) -> Line {
     match numbers.below(10) {
-        0..=4 => random_line(numbers).into(),
+        0..=4 => random_line(numbers, &all_wrappers()).into(),
         5 | 6 => numbers.one_of(&mixed()).into(),
         7 => vec![],
         8 => format!("{DATED}\r").into(),

@@ -1,7 +1,7 @@
 //! Transcripts, good and bad, for finders of marks to be compared by, each with the number of bytes that are lent for places.
 //! Each kind of transcript is a function here, and a case that several kinds make is printed once. The answers are no part of it.
 
-use crate::corpus::{GOOD, Numbers, lines, random_line};
+use crate::corpus::{GOOD, Numbers, all_wrappers, lines, random_line};
 use crate::marks::{LONGEST, PLACE, marks};
 use crate::pieces::Case;
 use crate::stored::{Stored, filled, lengths_about, strings};
@@ -410,7 +410,7 @@ fn random_part(numbers: &mut Numbers) -> String {
         0 | 1 => numbers.one_of(&PROSE).to_string(),
         2 => numbers.one_of(&["[", "]", "[[", "]]"]).to_string(),
         3 => numbers.one_of(&characters).to_string(),
-        4 | 5 => format!("[[{}]]", random_line(numbers)),
+        4 | 5 => format!("[[{}]]", random_line(numbers, &all_wrappers())),
         6 => format!("[[{}]]", numbers.one_of(&REFUSED)),
         _ => format!("[[{}]]", numbers.one_of(&characters)),
     }

@@ -488,27 +488,39 @@ static void check_known_feasts(void)
 
 /* Lines. */
 
-enum { WRAPPERS = 17, FIRST_AFTER = 3, FIRST_BEFORE = 10 };
+enum { WRAPPERS = 31, FIRST_OF_WEEKDAY = 3, FIRST_ON_OR = 17 };
 
 static const char *const wrappers[WRAPPERS] = {
     "eve of ", "morrow of ", "octave of ",
     "mon after ", "tue after ", "wed after ", "thu after ", "fri after ", "sat after ", "sun after ",
     "mon before ", "tue before ", "wed before ", "thu before ", "fri before ", "sat before ", "sun before ",
+    "mon on or after ", "tue on or after ", "wed on or after ", "thu on or after ", "fri on or after ", "sat on or after ",
+    "sun on or after ",
+    "mon on or before ", "tue on or before ", "wed on or before ", "thu on or before ", "fri on or before ", "sat on or before ",
+    "sun on or before ",
 };
+
+static int leads_on(int weekday_wrapper)
+{
+    return (weekday_wrapper - FIRST_OF_WEEKDAY) / 7 % 2 == 0;
+}
+
+static uint32_t weekday_of_wrapper(int weekday_wrapper)
+{
+    return (uint32_t)(weekday_wrapper - FIRST_OF_WEEKDAY) % 7 + 1;
+}
 
 /* The day to which a wrapper leads from a day or a refusal, by counting on or back. */
 static uint32_t wrapped(int wrapper, uint64_t style, uint32_t day)
 {
-    static const int steps[FIRST_AFTER] = {-1, 1, 7};
-    int weekday = (wrapper - FIRST_AFTER) % 7 + 1;
+    static const int steps[FIRST_OF_WEEKDAY] = {-1, 1, 7};
+    int step = leads_on(wrapper) ? 1 : -1;
     if (day < QV_FIRST_DAY)
         return day;
-    if (wrapper < FIRST_AFTER)
-        day += (uint32_t)steps[wrapper];
-    else
-        do
-            day = wrapper < FIRST_BEFORE ? day + 1 : day - 1;
-        while ((int)(day % 7) + 1 != weekday);
+    if (wrapper < FIRST_ON_OR)
+        day += (uint32_t)(wrapper < FIRST_OF_WEEKDAY ? steps[wrapper] : step);
+    while (wrapper >= FIRST_OF_WEEKDAY && day % 7 + 1 != weekday_of_wrapper(wrapper))
+        day += (uint32_t)step;
     return in_span(style, day) ? day : QV_SPAN;
 }
 
@@ -545,6 +557,13 @@ static void check_known_lines(void)
         {"eve of ", "31.2", 9999, 1, QV_DATE},
         {"mon before ", "easter", 1582, 2, QV_YEAR},
         {"", "32.1", 1581, 2, QV_FORM},
+        {"tue on or after ", "martin", 1587, 1, 2301027},
+        {"sun on or after ", "easter", 1225, 1, 2168578},
+        {"sun on or before ", "easter", 1225, 1, 2168578},
+        {"sat on or before ", "1.1", 1, 1, QV_FIRST_DAY},
+        {"sun on or before ", "1.1", 1, 1, QV_SPAN},
+        {"fri on or after ", "31.12", 9999, 2, GREGORIAN_LAST},
+        {"sat on or after ", "31.12", 9999, 2, QV_SPAN},
     };
     size_t i;
     for (i = 0; i < COUNT(known); i++)
@@ -563,6 +582,9 @@ static void check_lines_of_no_form(void)
         "eve of  easter 1225 J", "eve of", "after easter 1225 J", "tue easter 1225 J", "tue of easter 1225 J",
         "tues after easter 1225 J", "Tue after easter 1225 J", "tue after tue 1225 J", "tue after 1225 J",
         "tue  after easter 1225 J", "easter after tue 1225 J", "vigil of easter 1225 J", "on easter 1225 J",
+        "on or after easter 1225 J", "tue on or easter 1225 J", "tue on after easter 1225 J", "tue or after easter 1225 J",
+        "tue on or of easter 1225 J", "tue on or after 1225 J", "tue onor after easter 1225 J", "tue on  or after easter 1225 J",
+        "tue On or after easter 1225 J", "eve on or of easter 1225 J", "eve on or after easter 1225 J", "tue after on or easter 1225 J",
         "32.1 1225 J", "0.1 1225 J", "1.0 1225 J", "1.13 1225 J", "01.1 1225 J", "1.01 1225 J", "100.1 1225 J",
         "1.100 1225 J", "1.1. 1225 J", ".1 1225 J", "1. 1225 J", "1 1225 J", "1,1 1225 J", "1. 1 1225 J", "1.1.1 1225 J",
         "+1.1 1225 J", "-1.1 1225 J", "257.1 1225 J", "1.257 1225 J", "1.1 easter 1225 J", "1.1 1225 J 1.1 1225 J",
@@ -609,7 +631,7 @@ static void check_lengths(void)
         {"9.9", 9}, {"9.9", 99}, {"9.9", 999}, {"9.9", 1999}, {"19.9", 1999}, {"19.10", 1999}, {"easter", 1999}, {"laetare", 1999},
         {"epiphany", 1999}, {"quasimodo", 1999}, {"sexagesima", 1999}, {"bartholomew", 1999}, {"septuagesima", 1999},
     };
-    char chain[LONGEST_TRIED + 16];
+    char chain[LONGEST_TRIED + 18];
     int wrapper;
     size_t core, length;
     for (wrapper = 0; wrapper < WRAPPERS; wrapper++)
@@ -676,35 +698,34 @@ static void check_changed_bytes(void)
 }
 
 /* Every byte put in at every place of a line that no byte more leaves a line. */
-static void check_added_bytes(void)
+static void check_added_bytes(const char *good)
 {
-    static const char good[] = "tue after eve of easter 1225 J";
-    char line[sizeof good];
-    size_t place;
+    char line[LONGEST];
+    size_t length = strlen(good), place;
     int byte;
-    for (place = 0; place < sizeof good; place++)
+    for (place = 0; place <= length; place++)
         for (byte = 0; byte < 256; byte++) {
             memcpy(line, good, place);
             line[place] = (char)byte;
-            memcpy(line + place + 1, good + place, sizeof good - 1 - place);
-            expect_refused(line, sizeof good, QV_FORM);
+            memcpy(line + place + 1, good + place, length - place);
+            expect_refused(line, length + 1, QV_FORM);
         }
 }
 
-/* Every weekday word before and after each of fourteen days: one to seven days off, strictly, and of that weekday. */
+/* Every wrapper of a weekday on each of fourteen days: one to seven days off, or with "on or" zero to six, and of that weekday. */
 static void check_weekday_words(uint64_t style, uint64_t year)
 {
     char line[64];
     uint64_t day;
     int word;
     for (day = 1; day <= 14; day++)
-        for (word = FIRST_AFTER; word < WRAPPERS; word++) {
-            uint32_t from = qv_day(style, year, 11, day), weekday = (uint32_t)(word - FIRST_AFTER) % 7 + 1, off;
+        for (word = FIRST_OF_WEEKDAY; word < WRAPPERS; word++) {
+            uint32_t from = qv_day(style, year, 11, day), weekday = weekday_of_wrapper(word), least = word < FIRST_ON_OR ? 1 : 0, off;
             int length = sprintf(line, "%s%" PRIu64 ".11 %" PRIu64 " %c", wrappers[word], day, year, style == QV_JULIAN ? 'J' : 'G');
             struct reading r = reading(line, (size_t)length);
-            off = word < FIRST_BEFORE ? r.answer - from : from - r.answer;
-            check_line(1, off >= 1 && off <= 7, "one to seven days off", line, (size_t)length);
-            check_line(qv_weekday(style, from) == weekday, off == 7, "seven days off", line, (size_t)length);
+            off = leads_on(word) ? r.answer - from : from - r.answer;
+            check_line(1, off >= least && off <= least + 6, "at most seven days off", line, (size_t)length);
+            check_line(qv_weekday(style, from) == weekday, off % 7 == 0, "whole weeks off", line, (size_t)length);
             check_line(weekday, qv_weekday(style, r.answer), "the weekday", line, (size_t)length);
         }
 }
@@ -949,7 +970,8 @@ static void check_calls_on_lines(void)
     check_lengths();
     check_cut_lines();
     check_changed_bytes();
-    check_added_bytes();
+    check_added_bytes("tue after eve of easter 1225 J");
+    check_added_bytes("eve of tue on or after easter 1225 J");
     check_random_chains();
 }
 

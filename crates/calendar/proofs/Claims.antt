@@ -21,7 +21,7 @@ use Rattle.calendar.specs.Range.{between}
 use Rattle.calendar.specs.Refusal.{Holds, Lowest}
 use Rattle.calendar.specs.Span.{firstDay, lastDay, earliest, inSpan, spanTests, dayOrRefusal}
 use Rattle.calendar.specs.Style.{styleNumber, styleBy, styleOf, styleRefusal, styleOrZero, byNumber}
-use Rattle.calendar.specs.Weekday.{weekday, weekdayOfDay, weekdayRefusal, firstWeekday}
+use Rattle.calendar.specs.Weekday.{weekday, weekdayOfDay, weekdayRefusal, firstWeekday, leastAway}
 use Rattle.calendar.specs.Year.{named, daysOfYears, newYear, served}
 use Rattle.calendar.specs.declared.date.DateAnswer.the-variants.{On, NoDate}
 use Rattle.calendar.specs.declared.date.DateAnswer.{DateAnswer}
@@ -33,6 +33,8 @@ use Rattle.calendar.specs.declared.style.Style.the-variants.{Julian, Gre
 use Rattle.calendar.specs.declared.style.Style.{Style}
 use Rattle.calendar.specs.declared.style.StyleAnswer.the-variants.{Known, NoStyle}
 use Rattle.calendar.specs.declared.weekday.Side.the-variants.{After, Before}
+use Rattle.calendar.specs.declared.weekday.Start.the-variants.{Counted, Uncounted}
+use Rattle.calendar.specs.declared.weekday.Start.{Start}
 use Rattle.calendar.specs.declared.weekday.WeekdayAnswer.the-variants.{Weekday, NoWeekday}
 
 -- Any two answers that day to date may give are equal, in a style (`one-answer-in-style`) and by its number.
@@ -158,17 +160,38 @@ distance-range k y m d k′ y′ m′ d′ z h =
 pub zero-distance : (p q : DayAnswer) → (distanceOfDays p q ≡ Days (pos 0)) ↔ ((n : ℕ) × (p ≡ Day n) × (q ≡ Day n))
 zero-distance p q = (zero-same-day p q, λ h. rw (h .1, h .2) (same-day-zero (h .0)))
 
--- The first weekday after a day is later, falls on that weekday, and no day between does.
-pub first-after : (w n : ℕ) → 1 ≤ w → w ≤ 7
-    → (n < firstWeekday After w n) × (weekday (firstWeekday After w n) ≡ w) × ((m : ℕ) → n < m → weekday m ≡ w → firstWeekday After w n ≤ m)
-first-after w n low high =
-    let f = is-later w n low high in
-    (f .0, f .2, λ m later falls. omega (arith, f))
+-- The first such weekday later falls on that weekday, is at most six days away where the starting day counts and from one to seven where it does not, and no
+-- such day lies between.
+pub first-after : (c : Start) (w n : ℕ) → 1 ≤ w → w ≤ 7
+    → let d = firstWeekday c After w n in
+    (weekday d ≡ w) × (n + leastAway c ≤ d) × (d ≤ n + leastAway c + 6) × ((m : ℕ) → n + leastAway c ≤ m → weekday m ≡ w → d ≤ m)
+first-after c w n low high =
+    let f = is-later c w n low high in
+    (f .2, f .0, f .1, λ m later falls. omega (arith, f))
 
--- The first weekday before a day from 7 on is earlier, falls on that weekday, and no day between does.
-pub first-before : (w n : ℕ) → 1 ≤ w → w ≤ 7 → 7 ≤ n
-    → (firstWeekday Before w n < n) × (weekday (firstWeekday Before w n) ≡ w)
-    × ((m : ℕ) → m < n → weekday m ≡ w → m ≤ firstWeekday Before w n)
-first-before w n low high late =
-    let f = is-earlier w n low high late in
-    (f .0, f .2, λ m earlier falls. omega (arith, f))
+-- The first such weekday earlier than a day from 7 on, in the same way.
+pub first-before : (c : Start) (w n : ℕ) → 1 ≤ w → w ≤ 7 → 7 ≤ n
+    → let d = firstWeekday c Before w n in
+    (weekday d ≡ w) × (d + leastAway c ≤ n) × (n ≤ d + leastAway c + 6) × ((m : ℕ) → m + leastAway c ≤ n → weekday m ≡ w → m ≤ d)
+first-before c w n low high late =
+    let f = is-earlier c w n low high late in
+    (f .2, f .0, f .1, λ m earlier falls. omega (arith, f))
+
+-- Whether the starting day counts makes a difference exactly where it falls on that weekday: it is then answered by itself, or by the day a week away.
+pub after-differ : (w n : ℕ) → 1 ≤ w → w ≤ 7
+    → let on = firstWeekday Counted After w n in
+    let off = firstWeekday Uncounted After w n in
+    ((on ≡ off → ⊥) ↔ (weekday n ≡ w)) × (weekday n ≡ w → (on ≡ n) × (off ≡ n + 7))
+after-differ w n low high =
+    let f = is-later Counted w n low high in
+    let g = is-later Uncounted w n low high in
+    ((λ differ. omega arith, λ e same. omega arith), λ e. (omega arith, omega arith))
+
+pub before-differ : (w n : ℕ) → 1 ≤ w → w ≤ 7 → 7 ≤ n
+    → let on = firstWeekday Counted Before w n in
+    let off = firstWeekday Uncounted Before w n in
+    ((on ≡ off → ⊥) ↔ (weekday n ≡ w)) × (weekday n ≡ w → (on ≡ n) × (off + 7 ≡ n))
+before-differ w n low high late =
+    let f = is-earlier Counted w n low high late in
+    let g = is-earlier Uncounted w n low high late in
+    ((λ differ. omega arith, λ e same. omega arith), λ e. (omega arith, omega arith))

@@ -8,3 +8,4 @@ pub mod Span
 pub mod Date
 pub mod Weekday
 pub mod Distance
+pub mod Steps

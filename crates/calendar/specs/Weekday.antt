@@ -9,6 +9,8 @@ use Rattle.calendar.specs.Style.{styleOf, inStyle}
 use Rattle.calendar.specs.declared.style.Style.{Style}
 use Rattle.calendar.specs.declared.weekday.Side.the-variants.{After, Before}
 use Rattle.calendar.specs.declared.weekday.Side.{Side}
+use Rattle.calendar.specs.declared.weekday.Start.the-variants.{Counted, Uncounted}
+use Rattle.calendar.specs.declared.weekday.Start.{Start}
 use Rattle.calendar.specs.declared.weekday.WeekdayAnswer.the-variants.{Weekday, NoWeekday}
 use Rattle.calendar.specs.declared.weekday.WeekdayAnswer.{WeekdayAnswer}
 
@@ -46,6 +48,17 @@ neighbour Before n = pred n
 abbrev pub fallsOn : ℕ → ℕ → Bool
 fallsOn w n = eqb (weekday n) w
 
--- "the first such weekday strictly later, .. strictly earlier": the first of the seven days on that side of n that falls on w
-unfoldable pub firstWeekday : Side → ℕ → ℕ → ℕ
-firstWeekday x w n = firstOf (neighbour x) (fallsOn w) 7 (neighbour x n)
+-- the day from which a search on a side of n goes: n itself where it counts, and else the next
+abbrev pub searchFrom : Start → Side → ℕ → ℕ
+searchFrom Counted x n = n
+searchFrom Uncounted x n = neighbour x n
+
+-- "the first such weekday strictly later, .. strictly earlier", or, where the starting day counts, "on or after" and "on or before": the first of seven
+-- days on that side of n that falls on w
+unfoldable pub firstWeekday : Start → Side → ℕ → ℕ → ℕ
+firstWeekday c x w n = firstOf (neighbour x) (fallsOn w) 7 (searchFrom c x n)
+
+-- how many days away the first of these lies
+abbrev pub leastAway : Start → ℕ
+leastAway Counted = 0
+leastAway Uncounted = 1

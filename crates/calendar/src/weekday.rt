@@ -7,6 +7,7 @@ use crate::style::Style;
 use crate::style::StyleAnswer;
 use crate::style::style_of;
 ghost use mathlib.Core.Path.{_≡_};
+ghost use Rattle.calendar.specs.Steps.{lastOfSeven};
 ghost use Rattle.calendar.specs.Weekday.{weekdayInStyle, weekdayOfDay, weekdayRefusal, weekdayOrZero, firstWeekday};
 
 // A weekday, or why there is none.
@@ -61,22 +62,40 @@ pub enum Side {
     Before,
 }
 
-// The first such weekday strictly after or strictly before a day; 0 where there is none.
-pub fn first_weekday(side: Side, weekday: u64, day: u32) -> u64
-    ensures { λ r. ⌜ r ≡ firstWeekday side weekday day ⌝ }
+// Whether the day from which a weekday is looked for counts.
+pub enum Start {
+    Counted,
+    Uncounted,
+}
+
+// The last of the seven days that are looked at on a side of a day, with 7 added.
+fn last_of_seven(start: Start, side: Side, day: u32) -> u64
+    ensures { λ r. ⌜ r ≡ lastOfSeven start side day ⌝ }
+{
+    match side {
+        Side::After => match start {
+            Start::Counted => day as u64 + 13,
+            Start::Uncounted => day as u64 + 14,
+        },
+        Side::Before => match start {
+            Start::Counted => day as u64 + 7,
+            Start::Uncounted => day as u64 + 6,
+        },
+    }
+}
+
+// The first such weekday on a side of a day, which itself counts or not; 0 where there is none.
+pub fn first_weekday(start: Start, side: Side, weekday: u64, day: u32) -> u64
+    ensures { λ r. ⌜ r ≡ firstWeekday start side weekday day ⌝ }
 {
     if !is_between(1, weekday, 7) {
         return 0;
     }
-    let start = day as u64;
-    match side {
-        Side::After => start + 7 - (start + 8 - weekday) % 7,
-        Side::Before => {
-            let back = (start + 7 - weekday) % 7 + 1;
-            if start < back {
-                return 0;
-            }
-            start - back
-        }
+    // Of seven days one falls on the weekday.
+    let last = last_of_seven(start, side, day);
+    let back = (last + 1 + 6 * weekday) % 7 + 7;
+    if last < back {
+        return 0;
     }
+    last - back
 }

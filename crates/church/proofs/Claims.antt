@@ -158,7 +158,7 @@ matthias = refl
 -- Advent is a Sunday from 27 November to 3 December, and the only one.
 pub advent-sunday : (s : Style) (y : ℕ)
     → (weekday (adventSunday s y) ≡ sunday) × (dayNumber s y 11 27 ≤ adventSunday s y) × (adventSunday s y ≤ dayNumber s y 12 3)
-advent-sunday s y = rw (feast-laws.advent-after s y) (feast-laws.advent-week s y)
+advent-sunday s y = feast-laws.advent-week s y
 
 pub one-advent : (s : Style) (y n : ℕ) → dayNumber s y 11 27 ≤ n → n ≤ dayNumber s y 12 3 → weekday n ≡ sunday → n ≡ adventSunday s y
 one-advent s y n from to falls =

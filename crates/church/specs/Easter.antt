@@ -12,6 +12,7 @@ use Rattle.calendar.specs.declared.refusal.Refusal.the-variants.{Year}
 use Rattle.calendar.specs.declared.style.Style.the-variants.{Julian, Gregorian}
 use Rattle.calendar.specs.declared.style.Style.{Style}
 use Rattle.calendar.specs.declared.weekday.Side.the-variants.{After}
+use Rattle.calendar.specs.declared.weekday.Start.the-variants.{Uncounted}
 use Rattle.calendar.specs.declared.year.NamedYear.{NamedYear}
 
 -- "The limit is thirteen days after Luna I.", a day of March run on past 31
@@ -22,9 +23,9 @@ limit s y = luna s y + 13
 unfoldable pub march : Style → ℕ → ℕ → ℕ
 march s y d = dayNumber s y 3 d
 
--- "Easter is the first Sunday strictly after the limit."
+-- "Easter is the first Sunday strictly after the limit.": the limit does not count
 unfoldable pub easter : Style → ℕ → ℕ
-easter s y = firstWeekday After sunday (march s y (limit s y))
+easter s y = firstWeekday Uncounted After sunday (march s y (limit s y))
 
 -- "The key is Easter's distance from 21 March"
 unfoldable pub key : Style → ℕ → ℕ

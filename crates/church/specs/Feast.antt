@@ -8,16 +8,17 @@ use lib.ListN.{getD}
 use Rattle.calendar.specs.Date.{isDate, dayNumber}
 use Rattle.calendar.specs.Range.{between}
 use Rattle.calendar.specs.Refusal.{Test, _unless_, checked}
-use Rattle.calendar.specs.Search.{firstOf}
 use Rattle.calendar.specs.Span.{inSpan}
 use Rattle.calendar.specs.Style.{styleOf, inStyle}
-use Rattle.calendar.specs.Weekday.{sunday, fallsOn}
+use Rattle.calendar.specs.Weekday.{sunday, firstWeekday}
 use Rattle.calendar.specs.Year.{named, leap, served}
 use Rattle.church.specs.Easter.{easter, hasEaster}
 use Rattle.calendar.specs.declared.refusal.Refusal.the-variants.{Name, Year, Date, Span}
 use Rattle.calendar.specs.declared.span.DayAnswer.the-variants.{Day, NoDay}
 use Rattle.calendar.specs.declared.span.DayAnswer.{DayAnswer}
 use Rattle.calendar.specs.declared.style.Style.{Style}
+use Rattle.calendar.specs.declared.weekday.Side.the-variants.{After}
+use Rattle.calendar.specs.declared.weekday.Start.the-variants.{Counted}
 use Rattle.calendar.specs.declared.year.NamedYear.{NamedYear}
 
 -- a number of days with its sign
@@ -105,9 +106,9 @@ feastOf f = getD feasts (pred f) ("" is on 0 0)
 abbrev pub rule : ℕ → Rule
 rule f = ruleOf (feastOf f)
 
--- "advent is the Sunday from 27 November to 3 December": the first of these seven days that is a Sunday
+-- "advent is the Sunday from 27 November to 3 December": the first Sunday on or after 27 November
 unfoldable pub adventSunday : Style → ℕ → ℕ
-adventSunday s y = firstOf suc (fallsOn sunday) 7 (dayNumber s y 11 27)
+adventSunday s y = firstWeekday Counted After sunday (dayNumber s y 11 27)
 
 -- the day that lies so many days from the day n
 abbrev pub daysFrom : ℤ → ℕ → ℕ

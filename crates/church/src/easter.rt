@@ -7,6 +7,7 @@ use calendar::refusal::Refusal;
 use calendar::span::DayAnswer;
 use calendar::style::Style;
 use calendar::weekday::Side;
+use calendar::weekday::Start;
 use calendar::weekday::first_weekday;
 use calendar::year::NamedYear;
 ghost use mathlib.Core.Path.{_≡_};
@@ -16,6 +17,7 @@ ghost use Rattle.calendar.specs.Span.{earliest, latest};
 ghost use Rattle.calendar.specs.Weekday.{sunday, firstWeekday};
 ghost use Rattle.calendar.specs.declared.span.DayAnswer.the-variants.{Day, NoDay};
 ghost use Rattle.calendar.specs.declared.weekday.Side.the-variants.{After};
+ghost use Rattle.calendar.specs.declared.weekday.Start.the-variants.{Uncounted};
 ghost use Rattle.church.specs.Easter.{limit, march, easter, easterTests};
 
 // Sunday's number.
@@ -51,10 +53,10 @@ pub(crate) fn equinox(named: NamedYear) -> DayAnswer
 // The first Sunday after a limit of the year whose 21 March is given.
 pub(crate) fn easter_after(equinox: u32, limit: u64) -> u32
     requires { ⌜ (earliest ≤ equinox) × (equinox ≤ latest) × (21 ≤ limit) × (limit ≤ 49) ⌝ }
-    ensures { λ r. ⌜ r ≡ firstWeekday After sunday (equinox + limit - 21) ⌝ }
+    ensures { λ r. ⌜ r ≡ firstWeekday Uncounted After sunday (equinox + limit - 21) ⌝ }
 {
     let limit_day = equinox + limit as u32 - 21;
-    first_weekday(Side::After, SUNDAY, limit_day) as u32
+    first_weekday(Start::Uncounted, Side::After, SUNDAY, limit_day) as u32
 }
 
 // Easter, where the year's is answered, and else 4.

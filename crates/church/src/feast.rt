@@ -11,6 +11,7 @@ use calendar::style::is_gregorian;
 use calendar::style::style_by;
 use calendar::style::style_of;
 use calendar::weekday::Side;
+use calendar::weekday::Start;
 use calendar::weekday::first_weekday;
 use calendar::year::NamedYear;
 use calendar::year::is_leap;
@@ -101,16 +102,19 @@ fn fixed_in_year(named: NamedYear, feast: u64) -> DayAnswer
     day_in_year(named, date / 32 % 16, date % 32 + later)
 }
 
-// Advent, the first Sunday after 26 November.
+// Advent, the first Sunday on or after 27 November.
 fn advent_of_year(named: NamedYear) -> DayAnswer
     ensures { λ r. ⌜ r ≡ ruleDay named advent ⌝ }
 {
-    let answer = day_in_year(named, 11, 26);
+    let answer = day_in_year(named, 11, 27);
     let DayAnswer::Day(day) = answer else {
         return answer;
     };
     let style = named.style;
-    day_within(style, first_weekday(Side::After, SUNDAY, day))
+    day_within(
+        style,
+        first_weekday(Start::Counted, Side::After, SUNDAY, day),
+    )
 }
 
 // The day of a feast of a year; its style comes as a truth value, which is handed on in a register and not in memory.

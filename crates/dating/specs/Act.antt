@@ -8,12 +8,13 @@ use Rattle.calendar.specs.declared.style.Style.{Style}
 use Rattle.words.specs.declared.wrapper.Wrapper.the-variants.{Eve, Morrow, Octave, First}
 use Rattle.words.specs.declared.wrapper.Wrapper.{Wrapper}
 
--- "eve is one day earlier, morrow one later, octave seven later; "after" is the first such weekday strictly later, "before" strictly earlier."
+-- "eve is one day earlier, morrow one later, octave seven later; "after" is the first such weekday strictly later, "before" strictly earlier.", and "on or
+-- after" and "on or before" are so with the starting day counted: "a feast on that weekday answers itself"
 abbrev pub moved : Wrapper → ℕ → ℕ
 moved Eve n = n - 1
 moved Morrow n = n + 1
 moved Octave n = n + 7
-moved (First x w) n = firstWeekday x w n
+moved (First c x w) n = firstWeekday c x w n
 
 -- "Callers take the answer apart and hand the refusal on with its number."
 abbrev pub andThen : DayAnswer → (ℕ → DayAnswer) → DayAnswer

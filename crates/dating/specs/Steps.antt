@@ -1,9 +1,9 @@
 -- What the private functions of the reader and the writer answer. No public promise is stated by these.
-use mathlib.Core.Bool.{Bool, true, _||_}
+use mathlib.Core.Bool.{Bool, true, _||_, cond}
 use mathlib.Core.List.{List, _++_}
 use mathlib.Core.Path.{_≡_}
-use Prim.Native.Nat.{ℕ, _+_, _-_, _*_}
-use lib.Dec.{eqb}
+use Prim.Native.Nat.{ℕ, _+_, _/_, _%_}
+use lib.Dec.{eqb, ltb}
 use lib.ListN.{length}
 use lib.Seq.{sets}
 use Rattle.calendar.specs.Style.{styleLetter, styleBy}
@@ -19,22 +19,21 @@ use Rattle.calendar.specs.declared.span.DayAnswer.{DayAnswer}
 use Rattle.calendar.specs.declared.style.Style.the-variants.{Julian, Gregorian}
 use Rattle.calendar.specs.declared.style.Style.{Style}
 use Rattle.calendar.specs.declared.weekday.Side.the-variants.{After, Before}
+use Rattle.calendar.specs.declared.weekday.Side.{Side}
+use Rattle.calendar.specs.declared.weekday.Start.the-variants.{Counted, Uncounted}
+use Rattle.calendar.specs.declared.weekday.Start.{Start}
 use Rattle.calendar.specs.declared.year.NamedYear.{NamedYear}
-use Rattle.words.specs.declared.wrapper.Wrapper.the-variants.{Eve, Morrow, Octave, First}
-use Rattle.words.specs.declared.wrapper.Wrapper.{Wrapper}
 use Rattle.dating.specs.declared.line.Ending.{Ending}
 use Rattle.dating.specs.declared.line.Ending.the-variants.{At}
 use Rattle.dating.specs.declared.line.Reading.the-variants.{Dated, Refused}
 use Rattle.dating.specs.declared.line.Reading.{Reading}
 
--- what a wrapper does to a day, as one number: the days that it adds, and 8; 16 times what brings a weekday to 0 by sevens; and 256 for a weekday,
--- for which as many days are taken away as remain of the day and that number by 7
-abbrev pub stepOf : Wrapper → ℕ
-stepOf Eve = 7
-stepOf Morrow = 9
-stepOf Octave = 15
-stepOf (First After w) = 15 + 16 * (8 - w) + 256
-stepOf (First Before w) = 7 + 16 * (7 - w) + 256
+-- whether the starting day counts, and on which side it is looked, by the number of a weekday's wrapper
+abbrev pub startOf : ℕ → Start
+startOf n = cond (ltb n 16) Uncounted Counted
+
+abbrev pub sideOf : ℕ → Side
+sideOf n = cond (eqb (n / 8 % 2) 0) After Before
 
 abbrev pub anchors : Grammar
 anchors = record { Tree = Anchor; Good = GoodAnchor; spell = spellAnchor }

@@ -23,7 +23,7 @@ pub(crate) fn phrase_in_year(phrase: &[u8], gregorian: bool, year: u64) -> DayAn
 {
     let found = lead_of(phrase);
     let style = style_by(gregorian);
-    if found.number == 0 {
+    if found.length == 0 {
         let answer = anchor_in_year(phrase, NamedYear { style, year });
         let DayAnswer::Day(day) = answer else {
             return answer;

@@ -3,12 +3,12 @@ use mathlib.Core.Bool.{Bool, true, false, _&&_, cond, not, and-eq-true-iff}
 use mathlib.Core.List.{List, [], _∷_, _++_}
 use mathlib.Core.Logic.{_⊎_, inl, inr}
 use mathlib.Core.Path.{_≡_, refl, sym, _∙_, ap}
-use Prim.Native.Nat.{ℕ, zero, suc, _+_, _-_, _/_, _%_, _<_, _≤_}
+use Prim.Native.Nat.{ℕ, zero, suc, _+_, _-_, _*_, _/_, _%_, _<_, _≤_}
 use native.Mathlib.Decide.{decLt}
 use native.Mathlib.Omega.{arith}
 use lib.Dec.{T, eqb}
 use lib.ListN.{length, take, drop, getD, take-append-drop, List·getD-append, List·getD-eq-default}
-use lib.Seq.{length-take-le, getD-take, ext-getD}
+use lib.Seq.{length-take-le, getD-take, getD-drop, ext-getD}
 use borrow.Author.Tests.{eqb-true, eq-eqb, ne-eqb, not-true}
 use Rattle.calendar.proofs.Each.{each, is-true, T-both}
 use Rattle.calendar.proofs.Tested.{held as passed}
@@ -23,9 +23,24 @@ use Rattle.words.specs.Text.{has}
 abbrev pub Bytes : List ℕ → Type 0
 Bytes s = (i : ℕ) → getD s i 0 < 256
 
-small-four : (s : List ℕ) → Bytes s → (p : ℕ) → four s p < 4294967296
+pub within-bytes : (low : ℕ) (s : List ℕ) → within low 122 s ≡ true → Bytes s
+within-bytes low s e i =
+    elim (decLt i (length s)) [
+      | yes h ↦ omega (arith, within-at low 122 s e i h)
+      | no h ↦ rw (List·getD-eq-default s 0 {n = i} (omega arith)) (omega arith)
+    ]
+
+pub small-four : (s : List ℕ) → Bytes s → (p : ℕ) → four s p < 4294967296
 unfolding four
 small-four s b p = omega (arith, b p, b (p + 1), b (p + 2), b (p + 3))
+
+pub four-drop : (s : List ℕ) (n i j : ℕ) → j ≡ n + i → four (drop n s) i ≡ four s j
+unfolding four
+four-drop s n i j e =
+    let at : (d : ℕ) → getD (drop n s) (i + d) 0 ≡ getD s (j + d) 0 =
+    λ d. let q : n + (i + d) ≡ j + d = omega arith in getD-drop n s (i + d) 0 ∙ ap (λ (k : ℕ). getD s k 0) q in
+    let first : getD (drop n s) i 0 ≡ getD s j 0 = getD-drop n s i 0 ∙ ap (λ (k : ℕ). getD s k 0) (sym e) in
+    omega (arith, first, at 1, at 2, at 3)
 
 pub four-append : (w t : List ℕ) (p : ℕ) → p + 4 ≤ length w → four (w ++ t) p ≡ four w p
 unfolding four
@@ -34,7 +49,7 @@ four-append w t p h =
     omega (arith, at p (omega arith), at (p + 1) (omega arith), at (p + 2) (omega arith), at (p + 3) (omega arith))
 
 module _ (s w : List ℕ) (bs : Bytes s) (bw : Bytes w) where
-  same-four : (p : ℕ) → four s p ≡ four w p → (i : ℕ) → p ≤ i → i < p + 4 → getD s i 0 ≡ getD w i 0
+  pub same-four : (p : ℕ) → four s p ≡ four w p → (i : ℕ) → p ≤ i → i < p + 4 → getD s i 0 ≡ getD w i 0
   unfolding four
   same-four p e i low high = at (i - p) (omega arith) (omega arith)
     where
@@ -49,34 +64,36 @@ module _ (s w : List ℕ) (bs : Bytes s) (bw : Bytes w) where
       at (suc (suc (suc zero))) l z = rw z (each-one .3)
       at (suc (suc (suc (suc d)))) l z = absurd (omega arith)
 
-  -- the fours at the start, in the middle and at the end cover the word
-  module _ (long : (4 ≤ length w) × (length w ≤ 12)) (o : outerOf s (length w) ≡ outerOf w (length w))
-      (m : innerOf s (length w) ≡ innerOf w (length w)) where
-    ends : (four s 0 ≡ four w 0) × (four s (length w - 4) ≡ four w (length w - 4))
-    ends = omega (arith, small-four s bs 0, small-four w bw 0)
-
+  -- the fours at the start, at the end and from a place p in the middle cover the word
+  module _ (p : ℕ) (cover : (4 ≤ length w) × (p ≤ 4) × (length w ≤ p + 8))
+      (first : four s 0 ≡ four w 0) (middle : four s p ≡ four w p) (last : four s (length w - 4) ≡ four w (length w - 4)) where
     same-byte : (i : ℕ) → i < length w → getD s i 0 ≡ getD w i 0
     same-byte i h =
         elim (decLt i 4) [
-          | yes l ↦ same-four 0 (ends .0) i (omega arith) (omega arith)
+          | yes l ↦ same-four 0 first i (omega arith) (omega arith)
           | no l ↦
-              elim (decLt i ((length w - 4) / 2 + 4)) [
-                | yes g ↦ same-four ((length w - 4) / 2) (omega arith) i (omega arith) (omega arith)
-                | no g ↦ same-four (length w - 4) (ends .1) i (omega arith) (omega arith)
+              elim (decLt i (p + 4)) [
+                | yes g ↦ same-four p middle i (omega arith) (omega arith)
+                | no g ↦ same-four (length w - 4) last i (omega arith) (omega arith)
               ]
         ]
 
-    same-word : length w ≤ length s → w ++ drop (length w) s ≡ s
+    pub same-word : length w ≤ length s → w ++ drop (length w) s ≡ s
     same-word fits =
         let at : (i : ℕ) → i < length w → getD w i 0 ≡ getD (take (length w) s) i 0 = λ i h. sym (getD-take (length w) s i 0 h ∙ same-byte i h) in
         let same = ext-getD 0 w (take (length w) s) (sym (length-take-le (length w) s fits)) at in
         ap (λ (l : List ℕ). l ++ drop (length w) s) same ∙ take-append-drop (length w) s
 
+-- two fours in one number
+pub both-fours : (s w : List ℕ) → Bytes s → Bytes w → (a b c d : ℕ) → four s a + 4294967296 * four s b ≡ four w c + 4294967296 * four w d
+    → (four s a ≡ four w c) × (four s b ≡ four w d)
+both-fours s w bs bw a b c d e = omega (arith, small-four s bs a, small-four w bw c)
+
 -- ---- a slot is empty in all that it holds, or one number's
-abbrev Holds : ℕ → ((ℕ → ℕ) → ℕ) → Type 0
+abbrev pub Holds : ℕ → ((ℕ → ℕ) → ℕ) → Type 0
 Holds n h = ((m : ℕ) × (((1 ≤ m) × (m ≤ n)) × ((f : ℕ → ℕ) → h f ≡ f m))) ⊎ ((f : ℕ → ℕ) → h f ≡ 0)
 
-holds : (slot : ℕ → ℕ) (n i : ℕ) → Holds n (λ f. held slot f n i)
+pub holds : (slot : ℕ → ℕ) (n i : ℕ) → Holds n (λ f. held slot f n i)
 unfolding held
 holds slot zero i = inr (λ f. refl)
 holds slot (suc n) i = go (eqb (slot (suc n)) i) (holds slot n i)
@@ -126,14 +143,10 @@ module _ (slotOf : List ℕ → ℕ) (spelled : ℕ → List ℕ) (n low : ℕ) 
     unfolding worded
     letters = tested (worded slotOf spelled n low) n t x (good .0) (good .1) 2
 
-    its-bytes : Bytes (spelled x)
-    its-bytes i =
-        elim (decLt i (length (spelled x))) [
-          | yes h ↦ omega (arith, within-at low 122 (spelled x) letters i h)
-          | no h ↦ rw (List·getD-eq-default (spelled x) 0 {n = i} (omega arith)) (omega arith)
-        ]
+    pub its-bytes : Bytes (spelled x)
+    its-bytes = within-bytes low (spelled x) letters
 
-    holds-it : (f : ℕ → ℕ) → held (λ k. slotOf (spelled k)) f n (slotOf (spelled x)) ≡ f x
+    pub holds-it : (f : ℕ → ℕ) → held (λ k. slotOf (spelled k)) f n (slotOf (spelled x)) ≡ f x
     holds-it f =
         elim (holds (λ k. slotOf (spelled k)) n (slotOf (spelled x))) [
           | inl h ↦ h .1 .1 f ∙ ap f (sym (h .1 .1 (λ k. k)) ∙ its-slot)
@@ -166,8 +179,10 @@ module _ (slotOf : List ℕ → ℕ) (spelled : ℕ → List ℕ) (n low : ℕ) 
               let q : m / 1099511627776 ≡ h .0 = omega arith in
               let l : k ≡ length w = omega arith in
               let same-o : outerOf s k ≡ outerOf w (length w) = eo ∙ ho ∙ h .1 .1 (outerFor spelled) in
-              let same-m : innerOf s k ≡ innerOf w (length w) = omega arith in
-              rw q (h .1 .0, l, rw l (same-word s w bytes bw long (rw l at same-o) (rw l at same-m) (omega arith)))
+              let ends = both-fours s w bytes bw 0 (length w - 4) 0 (length w - 4) (rw l at same-o) in
+              let same-m : four s ((k - 4) / 2) ≡ four w ((length w - 4) / 2) = omega arith in
+              let all = same-word s w bytes bw ((length w - 4) / 2) (long .0, omega arith, omega arith) (ends .0) (rw l at same-m) (ends .1) in
+              rw q (h .1 .0, l, rw l (all (omega arith)))
           | inr z ↦ absurd (omega (arith, z (innerFor spelled)))
         ]
 

@@ -2,12 +2,13 @@
 use mathlib.Core.Bool.{Bool, true, false, cond}
 use mathlib.Core.List.{List, _++_}
 use mathlib.Core.Path.{_≡_}
-use Prim.Native.Nat.{ℕ, zero, suc, _+_, _-_, _*_, _/_, _%_, _≤_, min}
+use Prim.Native.Nat.{ℕ, zero, suc, pred, _+_, _-_, _*_, _/_, _%_, _≤_, min}
 use Prim.Native.Char.{code}
-use lib.Dec.{eqb}
+use lib.Dec.{eqb, ltb}
 use lib.ListN.{length, getD}
-use Rattle.words.specs.Text.{space}
-use Rattle.words.specs.Wrapper.{wrapperWords, wrapperOf}
+use Rattle.words.specs.Text.{bytes}
+use Rattle.words.specs.Wrapper.{wrapperWords, GoodWrapper, wrapperOf}
+use Rattle.words.specs.declared.wrapper.Wrapper.{Wrapper}
 
 -- a byte's value as a digit; 10 or more where it is none
 abbrev pub digitValue : ℕ → ℕ
@@ -44,27 +45,58 @@ outerIn slotOf spelled n i = held (λ k. slotOf (spelled k)) (outerFor spelled) 
 abbrev pub innerIn : (List ℕ → ℕ) → (ℕ → List ℕ) → ℕ → ℕ → ℕ
 innerIn slotOf spelled n i = held (λ k. slotOf (spelled k)) (innerFor spelled) n i
 
--- the slots, by two bytes and the length, or by three bytes
+-- the slot of a feast word, by two bytes and the length
 abbrev pub feastSlot : List ℕ → ℕ
 feastSlot s = (35 * getD s 0 0 + 10 * getD s 2 0 + 16 * length s) % 128
 
-abbrev pub wrapperSlot : List ℕ → ℕ
-wrapperSlot s = (2 * getD s 0 0 + 4 * getD s 1 0 + getD s 4 0) % 32
-
 -- ---- wrappers
--- the words of a wrapper by its number
-abbrev pub wordsOf : ℕ → List ℕ
-wordsOf n = wrapperWords (wrapperOf n)
+-- the slot of a wrapper's words, by three bytes
+abbrev pub wrapperSlot : List ℕ → ℕ
+wrapperSlot s = (2 * getD s 1 0 + 4 * getD s 2 0 + getD s 4 0) % 32
+
+-- the numbers of the seventeen wrappers without "on or", and their words
+abbrev pub plainNumber : ℕ → ℕ
+plainNumber k = cond (ltb k 17) (pred k) 32
+
+abbrev pub plainWords : ℕ → List ℕ
+plainWords k = wrapperWords (wrapperOf (plainNumber k))
+
+-- what a slot holds of the words that have it: the first and the last four bytes, and the four from the fourth on with the number
+abbrev pub middleFor : ℕ → ℕ
+middleFor k = four (plainWords k) 3 + 4294967296 * plainNumber k
+
+abbrev pub wrapperOuter : ℕ → ℕ
+wrapperOuter i = outerIn wrapperSlot plainWords 17 i
+
+abbrev pub wrapperMiddle : ℕ → ℕ
+wrapperMiddle i = held (λ k. wrapperSlot (plainWords k)) middleFor 17 i
 
 -- no wrapper's words stand at the start
 abbrev pub Wordless : List ℕ → Type 0
-Wordless s = (n : ℕ) → 1 ≤ n → n ≤ 17 → (t : List ℕ) → wordsOf n ++ t ≡ s → ⊥
+Wordless s = (w : Wrapper) → GoodWrapper w → (t : List ℕ) → wrapperWords w ++ t ≡ s → ⊥
 
 -- what a shortcut tells: passed by bytes that are enough for a wrapper's words, and failed by none that begin with such
 abbrev pub MayLead : List ℕ → Bool → Type 0
 MayLead s true = 7 ≤ length s
 MayLead s false = Wordless s
 
--- how many bytes a wrapper's words have, by the fourth and the fifth of them
-abbrev pub lengthBy : ℕ → ℕ → ℕ
-lengthBy x y = cond (eqb x space) (cond (eqb y (code "o")) 7 (cond (eqb y (code "b")) 11 10)) 10
+-- how many bytes a wrapper's words have without "on or", by the four from the fourth on
+abbrev pub countBy : ℕ → ℕ
+countBy m = cond (eqb m (four (bytes " of ") 0)) 7 (cond (eqb m (four (bytes " bef") 0)) 11 10)
+
+-- the first eight bytes of s from the fourth on as one number, or the first four where s is too short to have "on or" in it
+abbrev pub eightAt : List ℕ → ℕ → ℕ
+eightAt s i = four s i + 4294967296 * four s (i + 4)
+
+abbrev pub eightOf : List ℕ → ℕ
+eightOf s = cond (ltb (length s) 13) (four s 3) (eightAt s 3)
+
+-- how many bytes more than ten a weekday's words have by these: 6 for "on or after", 7 for "on or before", and else 0
+abbrev pub onOr : ℕ → ℕ
+onOr e = cond (eqb e (eightAt (bytes " on or a") 0)) 6 (cond (eqb e (eightAt (bytes " on or b") 0)) 7 0)
+
+-- what the first bytes of a phrase s tell of the words that it may begin with: they have l bytes, and with "on or" so many more than ten
+pub record LeadTold (s : List ℕ) (more l : ℕ) : Type 0 where
+  pub enough : 7 ≤ length s
+  pub on-or : more ≡ onOr (eightOf s)
+  pub told : l ≡ countBy (eightOf s % 4294967296) + more

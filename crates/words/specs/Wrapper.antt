@@ -10,6 +10,8 @@ use Rattle.words.specs.Text.{bytes}
 use Rattle.words.specs.Told.{Grammar, Told}
 use Rattle.calendar.specs.declared.weekday.Side.the-variants.{After, Before}
 use Rattle.calendar.specs.declared.weekday.Side.{Side}
+use Rattle.calendar.specs.declared.weekday.Start.the-variants.{Counted, Uncounted}
+use Rattle.calendar.specs.declared.weekday.Start.{Start}
 use Rattle.words.specs.declared.wrapper.Found.{Found}
 use Rattle.words.specs.declared.wrapper.Lead.the-variants.{Wrapped, Plain}
 use Rattle.words.specs.declared.wrapper.Lead.{Lead}
@@ -24,23 +26,28 @@ weekdayWords = "mon" ∷ "tue" ∷ "wed" ∷ "thu" ∷ "fri" ∷ "sat" ∷ "sun"
 abbrev pub weekdayWord : ℕ → List ℕ
 weekdayWord w = bytes (getD weekdayWords (pred w) "")
 
+-- behind a weekday, where the starting day counts: "on or"
+abbrev pub startWords : Start → List ℕ
+startWords Counted = bytes " on or"
+startWords Uncounted = []
+
 abbrev pub sideWord : Side → List ℕ
 sideWord After = bytes " after "
 sideWord Before = bytes " before "
 
--- the words of a wrapper, with the space behind them; First x w is the weekday w "after" or "before"
+-- the words of a wrapper, with the space behind them; First c x w is the weekday w "after" or "before", or "on or after" or "on or before"
 abbrev pub wrapperWords : Wrapper → List ℕ
 wrapperWords Eve = bytes "eve of "
 wrapperWords Morrow = bytes "morrow of "
 wrapperWords Octave = bytes "octave of "
-wrapperWords (First x w) = weekdayWord w ++ sideWord x
+wrapperWords (First c x w) = weekdayWord w ++ (startWords c ++ sideWord x)
 
 -- a weekday's number lies from 1 to 7
 abbrev pub GoodWrapper : Wrapper → Type 0
 GoodWrapper Eve = Unit
 GoodWrapper Morrow = Unit
 GoodWrapper Octave = Unit
-GoodWrapper (First x w) = (1 ≤ w) × (w ≤ 7)
+GoodWrapper (First c x w) = (1 ≤ w) × (w ≤ 7)
 
 -- a wrapper's words before any bytes
 pub record Leading : Type 0 where
@@ -63,21 +70,23 @@ abbrev pub leadLength : Lead → ℕ
 leadLength (Wrapped w n) = n
 leadLength Plain = 0
 
--- the wrappers by the numbers 1 to 17
+-- the wrappers by number: a weekday's own, with 8 added for "before" and 16 where the starting day counts; of the others, four times one more than the days
+-- that they add
 abbrev pub wrapperOf : ℕ → Wrapper
 wrapperOf n =
-    cond (ltb n 2) Eve
-    (cond (ltb n 3) Morrow
-    (cond (ltb n 4) Octave
-    (cond (ltb n 11) (First After (n - 3))
-    (First Before (n - 10)))))
+    cond (eqb n 0) Eve
+    (cond (eqb n 8) Morrow
+    (cond (eqb n 32) Octave
+    (cond (ltb n 8) (First Uncounted After n)
+    (cond (ltb n 16) (First Uncounted Before (n - 8))
+    (cond (ltb n 24) (First Counted After (n - 16))
+    (First Counted Before (n - 24)))))))
 
--- what a wrapper's number and the length of its words say; the number 0 is none's
+-- what a wrapper's number and the length of its words say; no words are none's
 abbrev pub leadOf : Found → Lead
-leadOf f = cond (eqb (f .number) 0) Plain (Wrapped (wrapperOf (f .number)) (f .length))
+leadOf f = cond (eqb (f .length) 0) Plain (Wrapped (wrapperOf (f .number)) (f .length))
 
 -- r is the number and the length of what stands at the start of s, or 0 and 0
 pub record TellsLead (s : List ℕ) (r : Found) : Type 0 where
   pub told : Told leadings lead Plain s (leadOf r)
-  pub known : r .number ≤ 17
-  pub none : r .number ≡ 0 → r .length ≡ 0
+  pub none : r .length ≡ 0 → r .number ≡ 0

@@ -1,10 +1,15 @@
-// Wrappers: each has a slot, told by three bytes, and is then compared with what the slot holds, as feast words are.
+// Wrappers: each has a slot, told by three bytes, and is then compared with what the slot holds, as feast words are. Where "on or" stands behind a weekday, it
+// is passed over, and what remains is told in the same way.
 use crate::text::four_at;
-use crate::text::is_word;
+use crate::text::pack8;
 use calendar::weekday::Side;
+use calendar::weekday::Start;
+ghost use mathlib.Core.Bool.{cond};
 ghost use mathlib.Core.Path.{_≡_};
-ghost use Prim.Native.Nat.{_+_, _*_, _%_};
-ghost use Rattle.words.specs.Steps.{outerIn, innerIn, wrapperSlot, wordsOf, lengthBy, MayLead};
+ghost use Prim.Native.Nat.{_+_, _*_, _%_, _≤_};
+ghost use lib.Dec.{eqb};
+ghost use lib.ListN.{length};
+ghost use Rattle.words.specs.Steps.{wrapperOuter, wrapperMiddle, countBy, MayLead, eightOf, onOr, LeadTold};
 ghost use Rattle.words.specs.Wrapper.{TellsLead};
 
 // What stands before a phrase and moves its day, as the definitions have it; the code goes by numbers.
@@ -12,8 +17,8 @@ pub enum Wrapper {
     Eve,
     Morrow,
     Octave,
-    // The first such weekday on a side.
-    First(Side, u64),
+    // The first such weekday on a side, where the starting day counts or not.
+    First(Start, Side, u64),
 }
 
 // The wrapper at the start of a phrase and the length of its words, or none, as the definitions have it.
@@ -22,7 +27,7 @@ pub enum Lead {
     Plain,
 }
 
-// The number of a wrapper, from 1 for the eve to 17 for a Sunday before, and the length of its words; 0 and 0 for none.
+// The number of a wrapper and the length of its words; 0 and 0 for none.
 pub struct Found {
     pub number: u64,
     pub length: usize,
@@ -30,70 +35,74 @@ pub struct Found {
 
 // The first four and the last four bytes of the words in a slot, as one number.
 fn outer_in(slot: usize) -> u64
-    ensures { λ r. ⌜ r ≡ outerIn wrapperSlot wordsOf 17 slot ⌝ }
+    ensures { λ r. ⌜ r ≡ wrapperOuter slot ⌝ }
 {
     match slot {
-        0 => 0x20666f206174636f, // octave of
-        3 => 0x2072657420646577, // wed after
-        4 => 0x2065726f20646577, // wed before
-        5 => 0x20666f2072726f6d, // morrow of
-        9 => 0x2072657420756874, // thu after
-        10 => 0x2065726f20756874, // thu before
-        11 => 0x2072657420746173, // sat after
-        12 => 0x2065726f20746173, // sat before
-        17 => 0x20666f2020657665, // eve of
-        21 => 0x2072657420697266, // fri after
-        22 => 0x2065726f20697266, // fri before
+        0 => 0x2065726f20657574, // tue before
+        3 => 0x20726574206e7573, // sun after
+        4 => 0x2065726f206e7573, // sun before
+        5 => 0x2072657420756874, // thu after
+        6 => 0x2065726f20756874, // thu before
+        9 => 0x2072657420697266, // fri after
+        10 => 0x2065726f20697266, // fri before
+        12 => 0x20666f206174636f, // octave of
+        15 => 0x20666f2020657665, // eve of
+        19 => 0x2072657420746173, // sat after
+        20 => 0x2065726f20746173, // sat before
+        21 => 0x20666f2072726f6d, // morrow of
         23 => 0x20726574206e6f6d, // mon after
         24 => 0x2065726f206e6f6d, // mon before
-        27 => 0x20726574206e7573, // sun after
-        28 => 0x2065726f206e7573, // sun before
-        29 => 0x2072657420657574, // tue after
-        30 => 0x2065726f20657574, // tue before
+        27 => 0x2072657420646577, // wed after
+        28 => 0x2065726f20646577, // wed before
+        31 => 0x2072657420657574, // tue after
         _ => 0,
     }
 }
 
-// The four bytes in the middle of the words in a slot, 2^32 times their length and 2^40 times the wrapper's number, as one number; 0 where there are none.
-fn inner_in(slot: usize) -> u64
-    ensures { λ r. ⌜ r ≡ innerIn wrapperSlot wordsOf 17 slot ⌝ }
+// The four bytes from the fourth on of the words in a slot, and 2^32 times the wrapper's number, as one number.
+fn middle_in(slot: usize) -> u64
+    ensures { λ r. ⌜ r ≡ wrapperMiddle slot ⌝ }
 {
     match slot {
-        0 => 0x030a20657661, // octave of
-        3 => 0x060a74666120, // wed after
-        4 => 0x0d0b66656220, // wed before
-        5 => 0x020a20776f72, // morrow of
-        9 => 0x070a74666120, // thu after
-        10 => 0x0e0b66656220, // thu before
-        11 => 0x090a74666120, // sat after
-        12 => 0x100b66656220, // sat before
-        17 => 0x01076f206576, // eve of
-        21 => 0x080a74666120, // fri after
-        22 => 0x0f0b66656220, // fri before
-        23 => 0x040a74666120, // mon after
-        24 => 0x0b0b66656220, // mon before
-        27 => 0x0a0a74666120, // sun after
-        28 => 0x110b66656220, // sun before
-        29 => 0x050a74666120, // tue after
-        30 => 0x0c0b66656220, // tue before
+        0 => 0x0a66656220, // tue before
+        3 => 0x0774666120, // sun after
+        4 => 0x0f66656220, // sun before
+        5 => 0x0474666120, // thu after
+        6 => 0x0c66656220, // thu before
+        9 => 0x0574666120, // fri after
+        10 => 0x0d66656220, // fri before
+        12 => 0x2020657661, // octave of
+        15 => 0x0020666f20, // eve of
+        19 => 0x0674666120, // sat after
+        20 => 0x0e66656220, // sat before
+        21 => 0x0820776f72, // morrow of
+        23 => 0x0174666120, // mon after
+        24 => 0x0966656220, // mon before
+        27 => 0x0374666120, // wed after
+        28 => 0x0b66656220, // wed before
+        31 => 0x0274666120, // tue after
         _ => 0,
     }
 }
 
-// The slot of three bytes, by factors found by trial, with which no two wrappers share one.
-fn slot(first: u8, second: u8, fifth: u8) -> usize
-    ensures { λ r. ⌜ r ≡ (2 * first + 4 * second + fifth) % 32 ⌝ }
+// The slot of three bytes, by factors found by trial, with which no two wrappers without "on or" share one.
+fn slot(second: u8, third: u8, fifth: u8) -> usize
+    ensures { λ r. ⌜ r ≡ (2 * second + 4 * third + fifth) % 32 ⌝ }
 {
-    (2 * first as usize + 4 * second as usize + fifth as usize) % 32
+    (2 * second as usize + 4 * third as usize + fifth as usize) % 32
 }
 
-// How many bytes a wrapper's words have, by two of them, so that the reading of what stands behind them need not wait for a table.
-fn length_by(fourth: u8, fifth: u8) -> usize
-    ensures { λ r. ⌜ r ≡ lengthBy fourth fifth ⌝ }
+// How many bytes a wrapper's words have without "on or", by the four from the fourth on, so that the reading of what stands behind need not wait for a table.
+fn count_by(middle: u64) -> usize
+    ensures { λ r. ⌜ r ≡ countBy middle ⌝ }
 {
-    let weekday_length = if fifth == b'b' { 11 } else { 10 };
-    let spaced_length = if fifth == b'o' { 7 } else { weekday_length };
-    if fourth == b' ' { spaced_length } else { 10 }
+    // " bef", and " of "
+    let weekday_count = if middle == 0x66656220 { 11 } else { 10 };
+    if middle == 0x20666f20 {
+        7
+    } else {
+        weekday_count
+    }
 }
 
 // Whether a wrapper may begin a phrase: a shortcut for phrases as short as a feast word, which have at most 12 bytes.
@@ -117,33 +126,80 @@ fn may_lead(phrase: &[u8]) -> bool
     phrase.len() > 6
 }
 
+// The eight bytes from the fourth on as one number, or the four where a phrase is too short to have "on or".
+fn eight_of(phrase: &[u8]) -> u64
+    requires { ⌜ 7 ≤ length (now phrase) ⌝ }
+    ensures { λ r. ⌜ r ≡ eightOf (now (phrase .entry)) ⌝ }
+{
+    if phrase.len() < 13 {
+        return four_at(phrase, 3) as u64;
+    }
+    pack8(four_at(phrase, 3), four_at(phrase, 7))
+}
+
+// How many bytes more than ten a weekday's words have by these eight: 6 for "on or after", 7 for "on or before", and else 0.
+fn on_or(eight: u64) -> usize
+    ensures { λ r. ⌜ r ≡ onOr eight ⌝ }
+{
+    // " on or a", and " on or b"
+    if eight == 0x6120726f206e6f20 {
+        return 6;
+    }
+    if eight == 0x6220726f206e6f20 {
+        return 7;
+    }
+    0
+}
+
+// The number where "on or" stands, and else 0.
+fn if_counted(more: usize, number: usize) -> usize
+    ensures { λ r. ⌜ r ≡ cond (eqb more 0) 0 number ⌝ }
+{
+    if more == 0 { 0 } else { number }
+}
+
+fn no_lead() -> Found
+    ensures { λ r. ⌜ r ≡ record { number = 0; length = 0 } ⌝ }
+{
+    Found {
+        number: 0,
+        length: 0,
+    }
+}
+
+// The wrapper of the words that a phrase begins with, if its first bytes are these: they are compared with what their slot holds.
+fn lead_by(phrase: &[u8], more: usize, count: usize) -> Found
+    requires { ⌜ LeadTold (now phrase) more count × (count ≤ length (now phrase)) ⌝ }
+    ensures { λ r. ⌜ TellsLead (now (phrase .entry)) r ⌝ }
+{
+    let skip = if_counted(more, 6);
+    let slot = slot(phrase[1], phrase[2], phrase[4 + skip]);
+    if pack8(four_at(phrase, 0), four_at(phrase, count - 4)) != outer_in(slot) {
+        return no_lead();
+    }
+    let told = middle_in(slot);
+    if told % 4294967296 != four_at(phrase, 3 + skip) as u64 {
+        return no_lead();
+    }
+    // Where the starting day counts, the number is by 16 greater.
+    Found {
+        number: told / 4294967296 + if_counted(more, 16) as u64,
+        length: count,
+    }
+}
+
 // The wrapper that a phrase begins with.
 pub fn lead_of(phrase: &[u8]) -> Found
     ensures { λ r. ⌜ TellsLead (now (phrase .entry)) r ⌝ }
 {
     if !may_lead(phrase) {
-        return Found {
-            number: 0,
-            length: 0,
-        };
+        return no_lead();
     }
-    let length = length_by(phrase[3], phrase[4]);
-    if phrase.len() < length {
-        return Found {
-            number: 0,
-            length: 0,
-        };
+    let eight = eight_of(phrase);
+    let more = on_or(eight);
+    let count = count_by(eight % 4294967296) + more;
+    if phrase.len() < count {
+        return no_lead();
     }
-    let slot = slot(phrase[0], phrase[1], phrase[4]);
-    let inner = inner_in(slot);
-    if !is_word(phrase, length, outer_in(slot), inner % 1099511627776) {
-        return Found {
-            number: 0,
-            length: 0,
-        };
-    }
-    Found {
-        number: inner / 1099511627776,
-        length,
-    }
+    lead_by(phrase, more, count)
 }

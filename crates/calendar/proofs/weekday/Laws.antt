@@ -1,13 +1,16 @@
 -- The first weekday on a side of a day, in closed form.
 use mathlib.Core.Bool.{true, false}
-use mathlib.Core.Path.{_≡_}
-use Prim.Native.Nat.{ℕ, suc, pred, _+_, _-_, _%_, _≤_, _<_}
+use mathlib.Core.Path.{_≡_, _∙_, ap}
+use Prim.Native.Nat.{ℕ, suc, pred, _+_, _-_, _*_, _%_, _≤_, _<_}
 use native.Mathlib.Omega.{arith}
 use borrow.Author.Tests.{eq-eqb, ne-eqb}
 use Rattle.calendar.proofs.Searches.{found-later, found-earlier, none-later, none-earlier}
-use Rattle.calendar.specs.Weekday.{weekday, fallsOn, firstWeekday}
+use Rattle.calendar.specs.Steps.{lastOfSeven}
+use Rattle.calendar.specs.Weekday.{weekday, fallsOn, searchFrom, leastAway, firstWeekday}
 use Rattle.calendar.specs.declared.weekday.Side.the-variants.{After, Before}
 use Rattle.calendar.specs.declared.weekday.Side.{Side}
+use Rattle.calendar.specs.declared.weekday.Start.the-variants.{Counted, Uncounted}
+use Rattle.calendar.specs.declared.weekday.Start.{Start}
 
 falls : (w n : ℕ) → weekday n ≡ w → fallsOn w n ≡ true
 falls w n e = eq-eqb (weekday n) w e
@@ -15,40 +18,70 @@ falls w n e = eq-eqb (weekday n) w e
 misses : (w n : ℕ) → (weekday n ≡ w → ⊥) → fallsOn w n ≡ false
 misses w n e = ne-eqb (weekday n) w e
 
--- a day that falls on the weekday within a week is the first
-later : (w n d : ℕ) → n < d → d ≤ n + 7 → weekday d ≡ w → firstWeekday After w n ≡ d
-unfolding firstWeekday
-later w n d low high e =
-    found-later (fallsOn w) 7 (suc n) d (omega arith) (omega arith) (λ i l h. misses w i (λ q. omega arith)) (falls w d e)
+-- how far the last of seven days, with 7 added, lies behind the one that falls on w
+abbrev pub backTo : ℕ → ℕ → ℕ
+backTo w last = (last + 8 - w) % 7 + 7
 
-earlier : (w n d : ℕ) → d < n → n ≤ d + 7 → weekday d ≡ w → firstWeekday Before w n ≡ d
-unfolding firstWeekday
-earlier w n d low high e =
-    found-earlier (fallsOn w) 7 (pred n) d (omega arith) (omega arith) (λ i l h. misses w i (λ q. omega arith)) (falls w d e)
+sevens : (n k : ℕ) → (n + 7 * k) % 7 ≡ n % 7
+sevens n k = omega arith
+
+-- the same without a difference
+pub back-closed : (w last : ℕ) → 1 ≤ w → w ≤ 7 → (last + 1 + 6 * w) % 7 + 7 ≡ backTo w last
+back-closed w last low high =
+    let e : last + 1 + 6 * w ≡ last + 8 - w + 7 * (w - 1) = omega arith in
+    ap (λ (r : ℕ). r + 7) (ap (λ (n : ℕ). n % 7) e ∙ sevens (last + 8 - w) (w - 1))
+
+pub last-small : (c : Start) (x : Side) (n : ℕ) → lastOfSeven c x n ≤ n + 14
+last-small Counted After n = omega arith
+last-small Uncounted After n = omega arith
+last-small Counted Before n = omega arith
+last-small Uncounted Before n = omega arith
+
+-- the search goes from the day n or from the next
+later-from : (c : Start) (n : ℕ) → lastOfSeven c After n ≡ searchFrom c After n + 13
+later-from Counted n = omega arith
+later-from Uncounted n = let next : n + 14 ≡ suc n + 13 = omega arith in next
+
+earlier-from : (c : Start) (n : ℕ) → searchFrom c Before n ≡ lastOfSeven c Before n - 7
+earlier-from Counted n = omega arith
+earlier-from Uncounted n = let next : pred n ≡ n + 6 - 7 = omega arith in next
 
 -- no day falls on a number that is no weekday
-pub no-weekday : (x : Side) (w n : ℕ) → (1 ≤ w → w ≤ 7 → ⊥) → firstWeekday x w n ≡ 0
+pub no-weekday : (c : Start) (x : Side) (w n : ℕ) → (1 ≤ w → w ≤ 7 → ⊥) → firstWeekday c x w n ≡ 0
 unfolding firstWeekday
-no-weekday After w n h = none-later (fallsOn w) 7 (suc n) (λ i l. misses w i (λ q. h (omega arith) (omega arith)))
-no-weekday Before w n h = none-earlier (fallsOn w) 7 (pred n) (λ i l g. misses w i (λ q. h (omega arith) (omega arith)))
+no-weekday c After w n h = none-later (fallsOn w) 7 (searchFrom c After n) (λ i l. misses w i (λ q. h (omega arith) (omega arith)))
+no-weekday c Before w n h = none-earlier (fallsOn w) 7 (searchFrom c Before n) (λ i l g. misses w i (λ q. h (omega arith) (omega arith)))
 
 -- the first days have not every weekday before them
-pub too-early : (w n : ℕ) → 1 ≤ w → w ≤ 7 → n < (n + 7 - w) % 7 + 1 → firstWeekday Before w n ≡ 0
+pub too-early : (c : Start) (x : Side) (w n : ℕ) → 1 ≤ w → w ≤ 7 → lastOfSeven c x n < backTo w (lastOfSeven c x n) → firstWeekday c x w n ≡ 0
 unfolding firstWeekday
-too-early w n low high early = none-earlier (fallsOn w) 7 (pred n) (λ i l g. misses w i (λ q. omega arith))
+too-early c After w n low high early = absurd (omega (arith, later-from c n))
+too-early c Before w n low high early =
+    let from = earlier-from c n in
+    none-earlier (fallsOn w) 7 (searchFrom c Before n) (λ i l g. misses w i (λ q. omega arith))
 
--- and the closed forms
-pub after-closed : (w n : ℕ) → 1 ≤ w → w ≤ 7 → firstWeekday After w n ≡ n + 7 - (n + 8 - w) % 7
-after-closed w n low high = later w n (n + 7 - (n + 8 - w) % 7) (omega arith) (omega arith) (omega arith)
+-- and the closed form
+pub closed : (c : Start) (x : Side) (w n : ℕ) → 1 ≤ w → w ≤ 7 → backTo w (lastOfSeven c x n) ≤ lastOfSeven c x n
+    → firstWeekday c x w n ≡ lastOfSeven c x n - backTo w (lastOfSeven c x n)
+unfolding firstWeekday
+closed c After w n low high h =
+    let from = later-from c n in
+    let d = lastOfSeven c After n - backTo w (lastOfSeven c After n) in
+    found-later (fallsOn w) 7 (searchFrom c After n) d (omega arith) (omega arith) (λ i l g. misses w i (λ q. omega arith)) (falls w d (omega arith))
+closed c Before w n low high h =
+    let from = earlier-from c n in
+    let d = lastOfSeven c Before n - backTo w (lastOfSeven c Before n) in
+    found-earlier (fallsOn w) 7 (searchFrom c Before n) d (omega arith) (omega arith) (λ i l g. misses w i (λ q. omega arith)) (falls w d (omega arith))
 
-pub before-closed : (w n : ℕ) → 1 ≤ w → w ≤ 7 → (n + 7 - w) % 7 + 1 ≤ n → firstWeekday Before w n ≡ n - ((n + 7 - w) % 7 + 1)
-before-closed w n low high h = earlier w n (n - ((n + 7 - w) % 7 + 1)) (omega arith) (omega arith) (omega arith)
+-- what is found falls on that weekday, and lies within a week
+pub is-later : (c : Start) (w n : ℕ) → 1 ≤ w → w ≤ 7
+    → let d = firstWeekday c After w n in
+    (n + leastAway c ≤ d) × (d ≤ n + leastAway c + 6) × (weekday d ≡ w)
+is-later Counted w n low high = rw (closed Counted After w n low high (omega arith)) (omega arith)
+is-later Uncounted w n low high = rw (closed Uncounted After w n low high (omega arith)) (omega arith)
 
--- the first weekday later or earlier lies within a week, and is that weekday
-pub is-later : (w n : ℕ) → 1 ≤ w → w ≤ 7
-    → (n < firstWeekday After w n) × (firstWeekday After w n ≤ n + 7) × (weekday (firstWeekday After w n) ≡ w)
-is-later w n low high = rw (after-closed w n low high) (omega arith)
-
-pub is-earlier : (w n : ℕ) → 1 ≤ w → w ≤ 7 → 7 ≤ n
-    → (firstWeekday Before w n < n) × (n ≤ firstWeekday Before w n + 7) × (weekday (firstWeekday Before w n) ≡ w)
-is-earlier w n low high late = rw (before-closed w n low high (omega arith)) (omega arith)
+pub is-earlier : (c : Start) (w n : ℕ) → 1 ≤ w → w ≤ 7 → 7 ≤ n
+    → let d = firstWeekday c Before w n in
+    (d + leastAway c ≤ n) × (n ≤ d + leastAway c + 6) × (weekday d ≡ w)
+is-earlier Counted w n low high late = rw (closed Counted Before w n low high (omega arith)) (omega arith)
+is-earlier Uncounted w n low high late = rw (closed Uncounted Before w n low high (omega arith)) (omega arith)

@@ -26,6 +26,7 @@ use Rattle.calendar.specs.declared.span.DayAnswer.the-variants.{Day, NoDay}
 use Rattle.calendar.specs.declared.style.Style.the-variants.{Julian, Gregorian}
 use Rattle.calendar.specs.declared.style.Style.{Style}
 use Rattle.calendar.specs.declared.weekday.Side.the-variants.{After}
+use Rattle.calendar.specs.declared.weekday.Start.the-variants.{Uncounted}
 
 -- which years have an Easter
 has-easter : (s : Style) (y : ℕ) → served s y ≡ true → reformYear s y ≡ false → hasEaster s y ≡ true
@@ -149,10 +150,10 @@ pub easter-facts : (s : Style) (y : ℕ) → EasterFacts s y
 unfolding easter
 easter-facts s y =
     let l = march s y (limit s y) in
-    let f = is-later sunday l (omega arith) (omega arith) in
+    let f = is-later Uncounted sunday l (omega arith) (omega arith) in
     let r = limit-range s y in
     let m = march-from s y (limit s y) (r .0) in
-    record { later = f .0; week = f .1; falls = f .2; key-low = omega arith; key-high = omega arith }
+    record { later = omega arith; week = omega arith; falls = f .2; key-low = omega arith; key-high = omega arith }
 
 -- days from 63 before Easter to 60 after it
 abbrev pub near : ℤ → Bool
@@ -178,6 +179,6 @@ pub easter-small : (s : Style) (y : ℕ) → hasEaster s y ≡ true → (earlies
 easter-small s y h = span-small s (easter s y) (easter-in-span s y h)
 
 -- Easter as the code finds it
-pub easter-closed : (s : Style) (y : ℕ) → firstWeekday After sunday (march s y 21 + limit s y - 21) ≡ easter s y
+pub easter-closed : (s : Style) (y : ℕ) → firstWeekday Uncounted After sunday (march s y 21 + limit s y - 21) ≡ easter s y
 unfolding easter
 easter-closed s y = rw (march-from s y (limit s y) (limit-range s y .0))

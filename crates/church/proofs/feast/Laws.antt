@@ -17,7 +17,7 @@ use Rattle.calendar.specs.Date.{monthLength, daysOfMonths, isDate, dayNumber, d
 use Rattle.calendar.specs.Range.{between}
 use Rattle.calendar.specs.Refusal.{_unless_, checked}
 use Rattle.calendar.specs.Span.{firstDay, inSpan, spanTests}
-use Rattle.calendar.specs.Weekday.{weekday, sunday, firstWeekday}
+use Rattle.calendar.specs.Weekday.{weekday, sunday}
 use Rattle.calendar.specs.Year.{named, leap, newYear, firstYear, served}
 use Rattle.church.proofs.easter.Laws.{easter-served, year-in-span, year-long, near, hung-in-span}
 use Rattle.church.specs.Easter.{easter, hasEaster}
@@ -28,7 +28,7 @@ use Rattle.calendar.specs.declared.span.DayAnswer.the-variants.{Day, NoDay}
 use Rattle.calendar.specs.declared.span.DayAnswer.{DayAnswer}
 use Rattle.calendar.specs.declared.style.Style.the-variants.{Julian, Gregorian}
 use Rattle.calendar.specs.declared.style.Style.{Style}
-use Rattle.calendar.specs.declared.weekday.Side.the-variants.{After}
+use Rattle.calendar.specs.declared.weekday.Start.the-variants.{Counted}
 use Rattle.calendar.specs.declared.year.NamedYear.{NamedYear}
 
 -- the days from Easter with 63 added, the days, the months, and how many days later in leap years, as the code's tables have them
@@ -136,54 +136,46 @@ pub in-table : (t : NamedYear) (f : ℕ) → between 1 f 48 ≡ true → feastIn
 unfolding feastInYear
 in-table t f e = rw e
 
--- 26 November lies in the span in every served year
-november-26 : (s : Style) (y : ℕ) → newYear s y + 329 ≤ dayNumber s y 11 26
+-- 27 November lies in the span in every served year
+november-27 : (s : Style) (y : ℕ) → newYear s y + 330 ≤ dayNumber s y 11 27
 unfolding dayNumber daysOfMonths
-november-26 s y = go (leap s y)
+november-27 s y = go (leap s y)
   where
-    go : (b : Bool) → newYear s y + 329 ≤ newYear s y + daysOfMonths b 10 + 25
+    go : (b : Bool) → newYear s y + 330 ≤ newYear s y + daysOfMonths b 10 + 26
     go true = omega arith
     go false = omega arith
 
-first-eve : (s : Style) → firstDay s ≤ newYear s (firstYear s) + 329
-first-eve Julian = omega (arith, span-start Julian)
-first-eve Gregorian = omega (arith, span-start Gregorian)
+first-november : (s : Style) → firstDay s ≤ newYear s (firstYear s) + 330
+first-november Julian = omega (arith, span-start Julian)
+first-november Gregorian = omega (arith, span-start Gregorian)
 
-eve-in-span : (s : Style) (y : ℕ) → served s y ≡ true → inSpan s (dayNumber s y 11 26) ≡ true
+november-in-span : (s : Style) (y : ℕ) → served s y ≡ true → inSpan s (dayNumber s y 11 27) ≡ true
 unfolding isDate between
-eve-in-span s y r =
+november-in-span s y r =
     let e = served-range s y r in
     let one = served-small s y r .0 in
-    let in-year = year-of s (dayNumber s y 11 26) y 11 26 (record { year = one; date = date-bounds s y 11 26 refl; number = refl }) in
-    in-span-from s (firstYear s) y 329 (dayNumber s y 11 26) (e .0) (e .1) (first-eve s) (november-26 s y) (in-year .to)
+    let in-year = year-of s (dayNumber s y 11 27) y 11 27 (record { year = one; date = date-bounds s y 11 27 refl; number = refl }) in
+    in-span-from s (firstYear s) y 330 (dayNumber s y 11 27) (e .0) (e .1) (first-november s) (november-27 s y) (in-year .to)
 
-pub eve-answer : (s : Style) (y : ℕ) → dayInYear (named s y) 11 26 ≡ checked NoDay (Day (dayNumber s y 11 26)) (Year unless served s y ∷ [])
+pub november-answer : (s : Style) (y : ℕ)
+    → dayInYear (named s y) 11 27 ≡ checked NoDay (Day (dayNumber s y 11 27)) (Year unless served s y ∷ [])
 unfolding isDate between
-eve-answer s y = answered s y 11 26 refl (eve-in-span s y)
-
--- the Sunday of the week from 27 November is the first after the 26th
-pub advent-after : (s : Style) (y : ℕ) → adventSunday s y ≡ firstWeekday After sunday (dayNumber s y 11 26)
-unfolding adventSunday firstWeekday dayNumber
-advent-after s y =
-    let n = newYear s y + daysOfMonths (leap s y) 10 in
-    let next : n + pred 27 ≡ suc (n + pred 26) = omega arith in
-    rw next
+november-answer s y = answered s y 11 27 refl (november-in-span s y)
 
 -- the week from 27 November to 3 December
 november : (b : Bool) → daysOfMonths b 11 ≡ daysOfMonths b 10 + 30
 unfolding daysOfMonths
 november b = refl
 
-pub week-long : (s : Style) (y : ℕ) → (dayNumber s y 11 27 ≡ dayNumber s y 11 26 + 1) × (dayNumber s y 12 3 ≡ dayNumber s y 11 26 + 7)
+pub week-long : (s : Style) (y : ℕ) → dayNumber s y 12 3 ≡ dayNumber s y 11 27 + 6
 unfolding dayNumber
-week-long s y = (omega arith, omega (arith, november (leap s y)))
+week-long s y = omega (arith, november (leap s y))
 
 pub advent-week : (s : Style) (y : ℕ)
-    → (weekday (firstWeekday After sunday (dayNumber s y 11 26)) ≡ sunday)
-    × (dayNumber s y 11 27 ≤ firstWeekday After sunday (dayNumber s y 11 26))
-    × (firstWeekday After sunday (dayNumber s y 11 26) ≤ dayNumber s y 12 3)
+    → (weekday (adventSunday s y) ≡ sunday) × (dayNumber s y 11 27 ≤ adventSunday s y) × (adventSunday s y ≤ dayNumber s y 12 3)
+unfolding adventSunday
 advent-week s y =
-    let f = is-later sunday (dayNumber s y 11 26) (omega arith) (omega arith) in
+    let f = is-later Counted sunday (dayNumber s y 11 27) (omega arith) (omega arith) in
     let w = week-long s y in
     (f .2, omega arith, omega arith)
 
@@ -247,7 +239,7 @@ before-december false = omega arith
 advent-in-year : (s : Style) (y : ℕ) → hasEaster s y ≡ true → inSpan s (adventSunday s y) ≡ true
 unfolding dayNumber
 advent-in-year s y h =
-    let w = rw (← advent-after s y) at (advent-week s y) in
+    let w = advent-week s y in
     let d = before-december (leap s y) in
     year-in-span s y (adventSunday s y) h (omega arith) (omega (arith, year-long s y h))
 

@@ -2,28 +2,29 @@ use mathlib.Core.Bool.{true}
 use mathlib.Core.Path.{sym, _∙_, _≡_}
 use borrow.Author.Needs.{needs}
 use Rattle.calendar.proofs.refusal.Laws.{passed-day, refused-by}
-use Rattle.church.proofs.feast.Laws.{advent-after, eve-answer}
+use Rattle.church.proofs.feast.Laws.{november-answer}
 use Rattle.calendar.specs.Date.{dayNumber}
 use Rattle.calendar.specs.Span.{within}
 use Rattle.calendar.specs.Year.{served}
+use Rattle.church.specs.Feast.{adventSunday}
 use Rattle.church.proofs.feast.advent_of_year.Statement.{statement}
 use Rattle.church.proofs.feast.advent_of_year.Tie as tie
 
 is-day : (c : tie.After-answer)
     → (served (c .before .before .before .args .named .style) (c .before .before .before .args .named .year) ≡ true)
-    × (dayNumber (c .before .before .before .args .named .style) (c .before .before .before .args .named .year) 11 26 ≡ c .answer .given .0 .0)
-is-day c = passed-day _ _ _ _ (sym (c .before .before .day-in-year .ensures ∙ eve-answer _ _) ∙ c .answer .given .1)
+    × (dayNumber (c .before .before .before .args .named .style) (c .before .before .before .args .named .year) 11 27 ≡ c .answer .given .0 .0)
+is-day c = passed-day _ _ _ _ (sym (c .before .before .day-in-year .ensures ∙ november-answer _ _) ∙ c .answer .given .1)
 
 returns-2 : tie.Need-returns-2
-unfolding within
+unfolding within adventSunday
 returns-2 c =
     let d = is-day (c .before .before .before) in
-    rw (d .0, advent-after, d .1, ← c .before .first-weekday .ensures) (c .day-within .ensures)
+    rw (d .0, d .1, ← c .before .first-weekday .ensures) (c .day-within .ensures)
 
 returns : tie.Need-returns
 returns c =
     let named = c .before .before .before .args .named in
-    let e = c .before .before .day-in-year .ensures ∙ eve-answer (named .style) (named .year) in
+    let e = c .before .before .day-in-year .ensures ∙ november-answer (named .style) (named .year) in
     e ∙ rw (refused-by (served (named .style) (named .year)) _ _ _ (sym e ∙ c .enum-told .given .1) .0)
 
 pub advent-of-year-spec : {M : Type 1} → statement M

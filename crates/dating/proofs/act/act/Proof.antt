@@ -1,54 +1,73 @@
-use mathlib.Core.Path.{_≡_, sym, _∙_, ap}
-use Prim.Native.Nat.{ℕ, _+_, _-_, _*_, _/_, _%_, _<_, _≤_}
+use mathlib.Core.Logic.{_⊎_, inl, inr, ⊎-elim}
+use mathlib.Core.Path.{_≡_, refl, sym, _∙_, ap}
+use Prim.Native.Nat.{ℕ, _+_, _-_, _/_, _%_}
 use native.Mathlib.Omega.{arith}
 use borrow.Author.Needs.{needs}
+use borrow.Author.Tests.{lt-ltb, le-ltb}
 use Rattle.calendar.proofs.span.Laws.{span-small}
-use Rattle.calendar.proofs.weekday.Laws.{after-closed, before-closed}
-use Rattle.calendar.specs.Span.{earliest, within}
+use Rattle.words.proofs.wrapper.Laws.{numberOf, its-number}
+use Rattle.calendar.specs.Span.{within}
+use Rattle.calendar.specs.Weekday.{firstWeekday}
 use Rattle.words.specs.Wrapper.{wrapperOf, GoodWrapper}
 use Rattle.dating.specs.Act.{moved}
-use Rattle.dating.specs.Steps.{stepOf}
+use Rattle.dating.specs.Steps.{startOf, sideOf}
 use Rattle.calendar.specs.declared.weekday.Side.the-variants.{After, Before}
+use Rattle.calendar.specs.declared.weekday.Start.the-variants.{Counted, Uncounted}
 use Rattle.words.specs.declared.wrapper.Wrapper.the-variants.{Eve, Morrow, Octave, First}
 use Rattle.words.specs.declared.wrapper.Wrapper.{Wrapper}
 use Rattle.dating.proofs.act.act.Statement.{statement}
 use Rattle.dating.proofs.act.act.Tie as tie
 
-abbrev back : ℕ → ℕ → ℕ
-back step n = (n + step / 16 % 16) % 7 * (step / 256)
+-- what a wrapper's number k makes of a day: so many days are added, or a weekday is looked for
+abbrev ActsBy : Wrapper → ℕ → ℕ → Type 0
+ActsBy w k n =
+    ((k % 8 ≡ 0) × (moved w n ≡ n + k / 4 - 1)) ⊎ ((k % 8 ≡ 0 → ⊥) × (moved w n ≡ firstWeekday (startOf k) (sideOf k) (k % 8) n))
 
--- what a weekday's step is made of
-parts : (days turn : ℕ) → days < 16 → turn < 16
-    → let step = days + 16 * turn + 256 in
-    (step % 16 ≡ days) × (step / 16 % 16 ≡ turn) × (step / 256 ≡ 1)
-parts days turn d t = let rest : (days + 16 * turn + 256) / 16 ≡ 16 + turn = omega arith in (omega arith, rw rest (omega arith), omega arith)
+acts-by : (w : Wrapper) → GoodWrapper w → (n : ℕ) → ActsBy w (numberOf w) n
+acts-by Eve g n = inl (refl, omega arith)
+acts-by Morrow g n = inl (refl, omega arith)
+acts-by Octave g n = inl (refl, omega arith)
+acts-by (First Uncounted After d) g n =
+    let kind : d / 8 ≡ 0 = omega (arith, g) in
+    let weekday : d % 8 ≡ d = omega (arith, g) in
+    inr (λ z. omega (arith, g), rw (lt-ltb d 16 (omega (arith, g)), kind, weekday))
+acts-by (First Uncounted Before d) g n =
+    let kind : (d + 8) / 8 ≡ 1 = omega (arith, g) in
+    let weekday : (d + 8) % 8 ≡ d = omega (arith, g) in
+    inr (λ z. omega (arith, g), rw (lt-ltb (d + 8) 16 (omega (arith, g)), kind, weekday))
+acts-by (First Counted After d) g n =
+    let kind : (d + 16) / 8 ≡ 2 = omega (arith, g) in
+    let weekday : (d + 16) % 8 ≡ d = omega (arith, g) in
+    inr (λ z. omega (arith, g), rw (le-ltb (d + 16) 16 (omega arith), kind, weekday))
+acts-by (First Counted Before d) g n =
+    let kind : (d + 24) / 8 ≡ 3 = omega (arith, g) in
+    let weekday : (d + 24) % 8 ≡ d = omega (arith, g) in
+    inr (λ z. omega (arith, g), rw (le-ltb (d + 24) 16 (omega arith), kind, weekday))
 
--- one formula for all wrappers
-stepped : (w : Wrapper) (n : ℕ) → GoodWrapper w → earliest ≤ n
-    → (back (stepOf w) n ≤ 6) × (moved w n ≡ n + stepOf w % 16 - 8 - back (stepOf w) n)
-stepped Eve n g h = (omega arith, omega arith)
-stepped Morrow n g h = (omega arith, omega arith)
-stepped Octave n g h = (omega arith, omega arith)
-stepped (First After w) n g h =
-    let p = parts 15 (8 - w) (omega arith) (omega arith) in
-    rw (p .0, p .1, p .2, after-closed w n (g .0) (g .1)) (omega arith, omega (arith, g))
-stepped (First Before w) n g h =
-    let p = parts 7 (7 - w) (omega arith) (omega arith) in
-    rw (p .0, p .1, p .2, before-closed w n (g .0) (g .1) (omega arith)) (omega arith, omega (arith, g))
+weekday-told : (c : tie.Joined1) → (c .before .args .number % 8 ≡ 0 → ⊥) → c .if1 .weekday ≡ c .before .args .number % 8
+weekday-told c some = ⊎-elim (λ w. absurd (some (w .0 .taken))) (λ w. w .1) (c .if1 .came)
 
-its-step : (c : tie.After-step-of)
-    → let n = c .before .args .day in let step = c .step-of .result in
-    (back step n ≤ 6) × (moved (wrapperOf (c .before .args .number)) n ≡ n + step % 16 - 8 - back step n)
-its-step c =
-    let day = span-small _ _ (c .before .pre .1 .1) in
-    rw (c .step-of .ensures) (stepped (wrapperOf (c .before .args .number)) _ (c .before .pre .1 .0) (omega arith))
+its-answer : (c : tie.Joined2)
+    → let a = c .before .before .before .before .before .args in
+    c .if2 .answer ≡ moved (wrapperOf (a .number)) (a .day)
+its-answer c =
+    let found = c .before in
+    let side = found .before in
+    let start = side .before in
+    let a = start .before .before .args in
+    let good = start .before .before .pre .0 in
+    elim (rw (its-number (a .number) good) at (acts-by (wrapperOf (a .number)) good (a .day))) [
+      | inl days ↦ ⊎-elim (λ w. w .1 ∙ sym (days .1)) (λ w. absurd (w .0 .left (days .0))) (c .if2 .came)
+      | inr search ↦
+          ⊎-elim (λ w. absurd (search .0 (w .0 .taken)))
+          (λ w. w .1 ∙ found .first-weekday .ensures
+          ∙ rw (start .start-of .ensures, side .side-of .ensures, weekday-told (start .before) (search .0)) (sym (search .1))) (c .if2 .came)
+    ]
 
 pub act-spec : {M : Type 1} → statement M
 act-spec =
     tie.close
     (tie.spec
-    (λ c κs. search needs) (λ c. search needs)
-    (λ c. omega (arith, its-step c .0)) (λ c. search needs)
-    (λ c. omega (arith, span-small _ _ (c .before .pre .1 .1)))
-    (λ c. omega (arith, its-step c .0, span-small _ _ (c .before .pre .1 .1))) (λ c κs. search needs)
-    (λ c. c .day-within .ensures ∙ ap (within (c .before .before .args .style)) (sym (its-step (c .before) .1))))
+    (λ c κs. search needs) (λ c κs. search needs) (λ c κs. search needs) (λ c. search needs)
+    (λ c. omega (arith, span-small _ _ (c .before .before .before .before .pre .1))) (λ c κs. search needs)
+    (λ c. c .day-within .ensures ∙ ap (within (c .before .before .before .before .before .before .args .style)) (its-answer (c .before))))

@@ -94,11 +94,7 @@ module _ (t : ℕ) where
       let k = c .before .before .before in
       let wrapper = k .before .before in
       let style = wrapper .before .before in
-      let good = leads _ _ _ (begins wrapper) .1 in
-      let some = wrapper .if1 .left in (
-        (omega arith, style .before .lead-of .ensures .known),
-        (good, rw (style .style-by .ensures) (told-in-span _ _ _ (rw (c .before .behind .given .1) at (tells k)))),
-      )
+      (leads _ _ _ (begins wrapper) .1, rw (style .style-by .ensures) (told-in-span _ _ _ (rw (c .before .behind .given .1) at (tells k))))
 
 pub +phrase-in-year-spec : {M : Type 1} → statement M
 +phrase-in-year-spec =

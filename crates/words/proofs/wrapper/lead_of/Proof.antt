@@ -1,9 +1,10 @@
-use Prim.Native.Nat.{_≤_}
+use Prim.Native.Nat.{_+_, _≤_}
 use native.Mathlib.Omega.{arith}
 use lib.ListN.{length}
 use borrow.Author.Needs.{needs}
 use borrow.Author.Tests.{not-true, not-false}
-use Rattle.words.proofs.wrapper.Laws.{no-room, inside, plain, no-words, these-words}
+use Rattle.words.proofs.wrapper.Laws.{count-small, more-small, no-space, plain}
+use Rattle.words.specs.Steps.{LeadTold}
 use Rattle.words.proofs.wrapper.lead_of.Statement.{statement}
 use Rattle.words.proofs.wrapper.lead_of.Tie as tie
 
@@ -11,49 +12,36 @@ seven : (c : tie.Else1) → 7 ≤ length (c .before .before .before .args .phras
 seven c = rw (not-false (c .before .may-lead .result) (c .if1 .left)) at (c .before .may-lead .ensures)
 
 returns : tie.Need-returns
-returns c = plain (rw (not-true (c .before .may-lead .result) (c .if1 .taken)) at (c .before .may-lead .ensures))
+returns c =
+    let may = c .before .before .may-lead in
+    rw (c .no-lead .ensures) (plain (rw (not-true (may .result) (c .before .if1 .taken)) at (may .ensures)))
+
+small : (c : tie.After-count-by) → (c .count-by .result ≤ 11) × (c .before .on-or .result ≤ 7)
+small c = (rw (c .count-by .ensures) (count-small _ .1), rw (c .before .on-or .ensures) (more-small _))
+
+told : (c : tie.After-count-by)
+    → LeadTold (c .before .before .before .before .before .before .args .phrase .now) (c .before .on-or .result) (c .count-by .result + c .before .on-or .result)
+told c =
+    let eight = c .before .before .eight-of .ensures in
+    record {
+      enough = seven (c .before .before .before);
+      on-or = rw (← eight) (c .before .on-or .ensures);
+      told = rw (← eight, c .count-by .ensures);
+    }
 
 returns-2 : tie.Need-returns-2
 returns-2 c =
-    let s = c .before .before .before .before .before .before .before .args .phrase .now in
-    plain (no-room s (c .before .length-by .ensures) (c .if2 .taken))
-
-is-word-requires : tie.Need-is-word-requires
-is-word-requires c κs =
-    let e = c .before .before .before .before .before .before in
-    inside (e .before .before .before .before .before .before .before .args .phrase .now) (e .before .length-by .ensures) (e .if2 .left)
-
-returns-3 : tie.Need-returns-3
-returns-3 c =
-    let o = c .before .before in
-    let e = o .before .before .before .before .before .before in
-    let slot = o .before .before .slot .ensures in
-    no-words (e .before .before .before .before .before .before .before .args .phrase .now)
-    (λ i. omega (arith, o .before .before .before .shared-slice-known6 .given i)) (e .before .length-by .ensures) (e .if2 .left)
-    (rw slot at (o .outer-in .ensures)) (rw slot at (o .before .inner-in .ensures)) (c .before .is-word .ensures) (c .if3 .taken)
-
-returns-4 : tie.Need-returns-4
-returns-4 c =
-    let o = c .before .before in
-    let e = o .before .before .before .before .before .before in
-    let slot = o .before .before .slot .ensures in
-    these-words (e .before .before .before .before .before .before .before .args .phrase .now)
-    (λ i. omega (arith, o .before .before .before .shared-slice-known6 .given i)) (e .before .length-by .ensures) (e .if2 .left)
-    (rw slot at (o .outer-in .ensures)) (rw slot at (o .before .inner-in .ensures)) (c .before .is-word .ensures) (c .if3 .left)
+    let start = c .before .before .before .before .before .before .before in
+    rw (c .no-lead2 .ensures) (no-space (start .before .args .phrase .now) (λ i. omega (arith, start .shared-slice-known .given i)) (told (c .before .before)) (c .before .if2 .taken))
 
 pub lead-of-spec : {M : Type 1} → statement M
 lead-of-spec =
     tie.close
     (tie.spec
-    (λ c κs. search needs)
+    (λ c κs. search needs) (λ c κs. search needs)
     returns
-    (λ c. omega (arith, seven (c .before))) (λ c. omega (arith, seven (c .before .before)))
-    (λ c κs. search needs)
+    (λ c κs. seven c) (λ c κs. search needs) (λ c κs. search needs)
+    (λ c. omega (arith, small c)) (λ c κs. search needs)
     returns-2
-    (λ c. omega (arith, seven (c .before .before .before .before .before)))
-    (λ c. omega (arith, seven (c .before .before .before .before .before .before)))
-    (λ c. omega (arith, seven (c .before .before .before .before .before .before .before)))
-    (λ c κs. search needs) (λ c κs. search needs) (λ c κs. search needs)
-    is-word-requires
-    returns-3
-    returns-4)
+    (λ c κs. (told (c .before), c .if2 .left))
+    (λ c. c .lead-by .ensures))

@@ -1,14 +1,14 @@
 use Rattle.words.proofs.wrapper.Laws.{no-wrapper}
 use Rattle.words.specs.Steps.{four, held}
-use Rattle.words.proofs.wrapper.inner_in.Statement.{statement}
-use Rattle.words.proofs.wrapper.inner_in.Tie as tie
+use Rattle.words.proofs.wrapper.middle_in.Statement.{statement}
+use Rattle.words.proofs.wrapper.middle_in.Tie as tie
 
 returns-18 : tie.Need-returns-18
 returns-18 c = no-wrapper _ _ (c .match .rest)
 
-pub inner-in-spec : {M : Type 1} → statement M
+pub middle-in-spec : {M : Type 1} → statement M
 unfolding four held
-inner-in-spec =
+middle-in-spec =
     tie.close
     (tie.spec
     (λ c. rw (c .match .keys1)) (λ c. rw (c .match .keys2)) (λ c. rw (c .match .keys3)) (λ c. rw (c .match .keys4)) (λ c. rw (c .match .keys5))
