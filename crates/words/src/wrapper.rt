@@ -97,12 +97,8 @@ fn count_by(middle: u64) -> usize
     ensures { λ r. ⌜ r ≡ countBy middle ⌝ }
 {
     // " bef", and " of "
-    let weekday_count = if middle == 0x66656220 { 11 } else { 10 };
-    if middle == 0x20666f20 {
-        7
-    } else {
-        weekday_count
-    }
+    let count = if middle == 0x66656220 { 11 } else { 10 };
+    if middle == 0x20666f20 { 7 } else { count }
 }
 
 // Whether a wrapper may begin a phrase: a shortcut for phrases as short as a feast word, which have at most 12 bytes.
