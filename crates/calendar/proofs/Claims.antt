@@ -160,8 +160,8 @@ distance-range k y m d k′ y′ m′ d′ z h =
 pub zero-distance : (p q : DayAnswer) → (distanceOfDays p q ≡ Days (pos 0)) ↔ ((n : ℕ) × (p ≡ Day n) × (q ≡ Day n))
 zero-distance p q = (zero-same-day p q, λ h. rw (h .1, h .2) (same-day-zero (h .0)))
 
--- The first such weekday later falls on that weekday, is at most six days away where the starting day counts and from one to seven where it does not, and no
--- such day lies between.
+-- The first such weekday after a day, or on or after it, falls on that weekday, is from one to seven days away, or at most six where the day itself counts, and
+-- no such day lies between.
 pub first-after : (c : Start) (w n : ℕ) → 1 ≤ w → w ≤ 7
     → let d = firstWeekday c After w n in
     (weekday d ≡ w) × (n + leastAway c ≤ d) × (d ≤ n + leastAway c + 6) × ((m : ℕ) → n + leastAway c ≤ m → weekday m ≡ w → d ≤ m)
@@ -169,7 +169,7 @@ first-after c w n low high =
     let f = is-later c w n low high in
     (f .2, f .0, f .1, λ m later falls. omega (arith, f))
 
--- The first such weekday earlier than a day from 7 on, in the same way.
+-- The same of the first before a day from 7 on, or on or before it.
 pub first-before : (c : Start) (w n : ℕ) → 1 ≤ w → w ≤ 7 → 7 ≤ n
     → let d = firstWeekday c Before w n in
     (weekday d ≡ w) × (d + leastAway c ≤ n) × (n ≤ d + leastAway c + 6) × ((m : ℕ) → m + leastAway c ≤ n → weekday m ≡ w → m ≤ d)
@@ -177,21 +177,21 @@ first-before c w n low high late =
     let f = is-earlier c w n low high late in
     (f .2, f .0, f .1, λ m earlier falls. omega (arith, f))
 
--- Whether the starting day counts makes a difference exactly where it falls on that weekday: it is then answered by itself, or by the day a week away.
+-- A day that falls on that weekday is answered by itself where it counts, and by the day a week away where it does not; for any other day both are one.
 pub after-differ : (w n : ℕ) → 1 ≤ w → w ≤ 7
-    → let on = firstWeekday Counted After w n in
-    let off = firstWeekday Uncounted After w n in
-    ((on ≡ off → ⊥) ↔ (weekday n ≡ w)) × (weekday n ≡ w → (on ≡ n) × (off ≡ n + 7))
+    → let counted = firstWeekday Counted After w n in
+    let uncounted = firstWeekday Uncounted After w n in
+    (weekday n ≡ w → (counted ≡ n) × (uncounted ≡ n + 7)) × ((weekday n ≡ w → ⊥) → counted ≡ uncounted)
 after-differ w n low high =
     let f = is-later Counted w n low high in
     let g = is-later Uncounted w n low high in
-    ((λ differ. omega arith, λ e same. omega arith), λ e. (omega arith, omega arith))
+    (λ e. (omega arith, omega arith), λ other. omega arith)
 
 pub before-differ : (w n : ℕ) → 1 ≤ w → w ≤ 7 → 7 ≤ n
-    → let on = firstWeekday Counted Before w n in
-    let off = firstWeekday Uncounted Before w n in
-    ((on ≡ off → ⊥) ↔ (weekday n ≡ w)) × (weekday n ≡ w → (on ≡ n) × (off + 7 ≡ n))
+    → let counted = firstWeekday Counted Before w n in
+    let uncounted = firstWeekday Uncounted Before w n in
+    (weekday n ≡ w → (counted ≡ n) × (uncounted + 7 ≡ n)) × ((weekday n ≡ w → ⊥) → counted ≡ uncounted)
 before-differ w n low high late =
     let f = is-earlier Counted w n low high late in
     let g = is-earlier Uncounted w n low high late in
-    ((λ differ. omega arith, λ e same. omega arith), λ e. (omega arith, omega arith))
+    (λ e. (omega arith, omega arith), λ other. omega arith)

@@ -58,7 +58,7 @@ searchFrom Uncounted x n = neighbour x n
 unfoldable pub firstWeekday : Start → Side → ℕ → ℕ → ℕ
 firstWeekday c x w n = firstOf (neighbour x) (fallsOn w) 7 (searchFrom c x n)
 
--- how many days away the first of these lies
+-- how many days from n the first day that is looked at lies
 abbrev pub leastAway : Start → ℕ
 leastAway Counted = 0
 leastAway Uncounted = 1

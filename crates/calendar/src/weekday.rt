@@ -7,7 +7,7 @@ use crate::style::Style;
 use crate::style::StyleAnswer;
 use crate::style::style_of;
 ghost use mathlib.Core.Path.{_≡_};
-ghost use Rattle.calendar.specs.Steps.{lastOfSeven};
+ghost use Rattle.calendar.specs.Steps.{latestOfSeven};
 ghost use Rattle.calendar.specs.Weekday.{weekdayInStyle, weekdayOfDay, weekdayRefusal, weekdayOrZero, firstWeekday};
 
 // A weekday, or why there is none.
@@ -68,9 +68,9 @@ pub enum Start {
     Uncounted,
 }
 
-// The last of the seven days that are looked at on a side of a day, with 7 added.
-fn last_of_seven(start: Start, side: Side, day: u32) -> u64
-    ensures { λ r. ⌜ r ≡ lastOfSeven start side day ⌝ }
+// The latest of the seven days that are looked at on a side of a day, with 7 added, so that none lies before 0.
+fn latest_of_seven(start: Start, side: Side, day: u32) -> u64
+    ensures { λ r. ⌜ r ≡ latestOfSeven start side day ⌝ }
 {
     match side {
         Side::After => match start {
@@ -91,11 +91,11 @@ pub fn first_weekday(start: Start, side: Side, weekday: u64, day: u32) -> u64
     if !is_between(1, weekday, 7) {
         return 0;
     }
-    // Of seven days one falls on the weekday.
-    let last = last_of_seven(start, side, day);
-    let back = (last + 1 + 6 * weekday) % 7 + 7;
-    if last < back {
+    // The weekday lies at most six days before the latest, and the 7 that were added are taken off too.
+    let latest = latest_of_seven(start, side, day);
+    let back = (latest + 1 + 6 * weekday) % 7 + 7;
+    if latest < back {
         return 0;
     }
-    last - back
+    latest - back
 }

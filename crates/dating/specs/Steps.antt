@@ -28,7 +28,7 @@ use Rattle.dating.specs.declared.line.Ending.the-variants.{At}
 use Rattle.dating.specs.declared.line.Reading.the-variants.{Dated, Refused}
 use Rattle.dating.specs.declared.line.Reading.{Reading}
 
--- whether the starting day counts, and on which side it is looked, by the number of a weekday's wrapper
+-- whether the starting day counts, and which side is searched, by the number of a weekday's wrapper
 abbrev pub startOf : ℕ → Start
 startOf n = cond (ltb n 16) Uncounted Counted
 

@@ -33,12 +33,13 @@ fn side_of(number: u64) -> Side
     Side::Before
 }
 
-// The day that the wrapper with a number makes of a day of the span: both ways are worked out, so that nothing waits for a choice between them.
+// The day that the wrapper with a number makes of a day of the span: the weekday found and the days added are both worked out, and one is taken.
 pub(crate) fn act(number: u64, style: Style, day: u32) -> DayAnswer
     requires { ⌜ GoodWrapper (wrapperOf number) × (inSpan style day ≡ true) ⌝ }
     ensures { λ r. ⌜ r ≡ acted style (wrapperOf number) (Day day) ⌝ }
 {
     let told = number % 8;
+    // A weekday in either case, so that the compiler sees that the search has one and makes no branch of it.
     let weekday = if told == 0 { 7 } else { told };
     let found = first_weekday(start_of(number), side_of(number), weekday, day);
     // The numbers of eve, morrow and octave are four times one more than the days that they add.

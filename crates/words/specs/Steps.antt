@@ -84,10 +84,11 @@ MayLead s false = Wordless s
 abbrev pub countBy : ℕ → ℕ
 countBy m = cond (eqb m (four (bytes " of ") 0)) 7 (cond (eqb m (four (bytes " bef") 0)) 11 10)
 
--- the first eight bytes of s from the fourth on as one number, or the first four where s is too short to have "on or" in it
+-- the eight bytes from a place on as one number
 abbrev pub eightAt : List ℕ → ℕ → ℕ
 eightAt s i = four s i + 4294967296 * four s (i + 4)
 
+-- those from the fourth on, or four where s is too short to begin with a weekday and "on or"
 abbrev pub eightOf : List ℕ → ℕ
 eightOf s = cond (ltb (length s) 13) (four s 3) (eightAt s 3)
 

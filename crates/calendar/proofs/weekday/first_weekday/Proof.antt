@@ -5,7 +5,7 @@ use native.Mathlib.Omega.{arith}
 use borrow.Author.Needs.{needs}
 use Rattle.calendar.proofs.Tested.{failed, held}
 use Rattle.calendar.proofs.range.Laws.{range, in-range}
-use Rattle.calendar.proofs.weekday.Laws.{back-closed, no-weekday, too-early, closed, last-small}
+use Rattle.calendar.proofs.weekday.Laws.{back-closed, no-weekday, too-early, closed, latest-small}
 use Rattle.calendar.proofs.weekday.first_weekday.Statement.{statement}
 use Rattle.calendar.proofs.weekday.first_weekday.Tie as tie
 
@@ -18,23 +18,23 @@ returns c =
 week : (c : tie.Else1) → (1 ≤ c .before .before .args .weekday) × (c .before .before .args .weekday ≤ 7)
 week c = range 1 _ 7 (held (c .before .is-between .ensures) (c .if1 .left))
 
-small : (c : tie.After-last-of-seven) → c .last-of-seven .result ≤ c .before .before .before .args .day + 14
+small : (c : tie.After-latest-of-seven) → c .latest-of-seven .result ≤ c .before .before .before .args .day + 14
 small c =
     let a = c .before .before .before .args in
-    rw (c .last-of-seven .ensures) (last-small (a .start) (a .side) (a .day))
+    rw (c .latest-of-seven .ensures) (latest-small (a .start) (a .side) (a .day))
 
 returns-2 : tie.Need-returns-2
 returns-2 c =
-    let last = c .before .last-of-seven .ensures in
+    let latest = c .before .latest-of-seven .ensures in
     let w = week (c .before .before) in
-    sym (too-early _ _ _ _ (w .0) (w .1) (rw (last, back-closed _ _ (w .0) (w .1)) at (c .if2 .taken)))
+    sym (too-early _ _ _ _ (w .0) (w .1) (rw (latest, back-closed _ _ (w .0) (w .1)) at (c .if2 .taken)))
 
 returns-3 : tie.Need-returns-3
 returns-3 c =
-    let last = c .before .last-of-seven .ensures in
+    let latest = c .before .latest-of-seven .ensures in
     let w = week (c .before .before) in
-    let fits = rw (last, back-closed _ _ (w .0) (w .1)) at (c .if2 .left) in
-    rw (last, back-closed _ _ (w .0) (w .1)) (sym (closed _ _ _ _ (w .0) (w .1) fits))
+    let fits = rw (latest, back-closed _ _ (w .0) (w .1)) at (c .if2 .left) in
+    rw (latest, back-closed _ _ (w .0) (w .1)) (sym (closed _ _ _ _ (w .0) (w .1) fits))
 
 pub first-weekday-spec : {M : Type 1} → statement M
 first-weekday-spec =

@@ -1,9 +1,9 @@
 use borrow.Author.Needs.{needs}
-use Rattle.calendar.proofs.weekday.last_of_seven.Statement.{statement}
-use Rattle.calendar.proofs.weekday.last_of_seven.Tie as tie
+use Rattle.calendar.proofs.weekday.latest_of_seven.Statement.{statement}
+use Rattle.calendar.proofs.weekday.latest_of_seven.Tie as tie
 
-pub last-of-seven-spec : {M : Type 1} → statement M
-last-of-seven-spec =
+pub latest-of-seven-spec : {M : Type 1} → statement M
+latest-of-seven-spec =
     tie.close
     (tie.spec
     (λ c. search needs) (λ c. search needs) (λ c. search needs) (λ c. search needs) (λ c. search needs)
