@@ -88,16 +88,16 @@ countBy m = cond (eqb m (four (bytes " of ") 0)) 7 (cond (eqb m (four (bytes " b
 abbrev pub eightAt : List ℕ → ℕ → ℕ
 eightAt s i = four s i + 4294967296 * four s (i + 4)
 
--- those from the fourth on, or four where s is too short to begin with a weekday and "on or"
+-- those from the fourth on, or four where s is too short for a weekday's words with "on or"
 abbrev pub eightOf : List ℕ → ℕ
 eightOf s = cond (ltb (length s) 13) (four s 3) (eightAt s 3)
 
--- how many bytes more than ten a weekday's words have by these: 6 for "on or after", 7 for "on or before", and else 0
+-- how many bytes more than countBy tells a wrapper's words have, by these: 6 for "on or after", 7 for "on or before", which is longer by one; else 0
 abbrev pub onOr : ℕ → ℕ
 onOr e = cond (eqb e (eightAt (bytes " on or a") 0)) 6 (cond (eqb e (eightAt (bytes " on or b") 0)) 7 0)
 
--- what the first bytes of a phrase s tell of the words that it may begin with: they have l bytes, and with "on or" so many more than ten
-pub record LeadTold (s : List ℕ) (more l : ℕ) : Type 0 where
+-- what the first bytes of a phrase s tell of the words that it may begin with: how many bytes they have, and how many of them more for "on or"
+pub record LeadTold (s : List ℕ) (more count : ℕ) : Type 0 where
   pub enough : 7 ≤ length s
   pub on-or : more ≡ onOr (eightOf s)
-  pub told : l ≡ countBy (eightOf s % 4294967296) + more
+  pub told : count ≡ countBy (eightOf s % 4294967296) + more

@@ -82,7 +82,7 @@ wrapperOf n =
     (cond (ltb n 24) (First Counted After (n - 16))
     (First Counted Before (n - 24)))))))
 
--- what a wrapper's number and the length of its words say; no words are none's
+-- what a wrapper's number and the length of its words say; a length of 0 is no wrapper's
 abbrev pub leadOf : Found → Lead
 leadOf f = cond (eqb (f .length) 0) Plain (Wrapped (wrapperOf (f .number)) (f .length))
 

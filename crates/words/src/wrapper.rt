@@ -1,5 +1,5 @@
-// Wrappers: each has a slot, told by three bytes, and is then compared with what the slot holds, as feast words are. Where "on or" stands behind a weekday, it
-// is passed over, and what remains is told in the same way.
+// Wrappers: each without "on or" has a slot, told by three bytes, and is then compared with what the slot holds, as feast words are. Where "on or" stands
+// behind a weekday, it is passed over, and what remains is told in the same way.
 use crate::text::four_at;
 use crate::text::pack8;
 use calendar::weekday::Side;
@@ -122,7 +122,7 @@ fn may_lead(phrase: &[u8]) -> bool
     phrase.len() > 6
 }
 
-// The eight bytes from the fourth on as one number, or the four where a phrase is too short to have "on or".
+// The eight bytes from the fourth on as one number, or four where a phrase is too short for a weekday's words with "on or"; the bound is that of may_lead.
 fn eight_of(phrase: &[u8]) -> u64
     requires { ⌜ 7 ≤ length (now phrase) ⌝ }
     ensures { λ r. ⌜ r ≡ eightOf (now (phrase .entry)) ⌝ }
@@ -133,7 +133,7 @@ fn eight_of(phrase: &[u8]) -> u64
     pack8(four_at(phrase, 3), four_at(phrase, 7))
 }
 
-// How many bytes more than ten a weekday's words have by these eight: 6 for "on or after", 7 for "on or before", and else 0.
+// How many bytes more than count_by tells a wrapper's words have, by these eight: 6 for "on or after", 7 for "on or before", which is longer by one; else 0.
 fn on_or(eight: u64) -> usize
     ensures { λ r. ⌜ r ≡ onOr eight ⌝ }
 {
@@ -163,7 +163,7 @@ fn no_lead() -> Found
     }
 }
 
-// The wrapper of the words that a phrase begins with, if its first bytes are these: they are compared with what their slot holds.
+// The wrapper whose words a phrase begins with, if they are those in the slot that its first bytes tell: they are compared with what the slot holds.
 fn lead_by(phrase: &[u8], more: usize, count: usize) -> Found
     requires { ⌜ LeadTold (now phrase) more count × (count ≤ length (now phrase)) ⌝ }
     ensures { λ r. ⌜ TellsLead (now (phrase .entry)) r ⌝ }
