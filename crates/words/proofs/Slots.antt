@@ -8,7 +8,7 @@ use native.Mathlib.Decide.{decLt}
 use native.Mathlib.Omega.{arith}
 use lib.Dec.{T, eqb}
 use lib.ListN.{length, take, drop, getD, take-append-drop, List·getD-append, List·getD-eq-default}
-use lib.Seq.{length-take-le, getD-take, getD-drop, ext-getD}
+use lib.Seq.{length-take-le, getD-take, ext-getD}
 use borrow.Author.Tests.{eqb-true, eq-eqb, ne-eqb, not-true}
 use Rattle.calendar.proofs.Each.{each, is-true, T-both}
 use Rattle.calendar.proofs.Tested.{held as passed}
@@ -34,19 +34,21 @@ pub small-four : (s : List ℕ) → Bytes s → (p : ℕ) → four s p < 4294967
 unfolding four
 small-four s b p = omega (arith, b p, b (p + 1), b (p + 2), b (p + 3))
 
-pub four-drop : (s : List ℕ) (n i j : ℕ) → j ≡ n + i → four (drop n s) i ≡ four s j
-unfolding four
-four-drop s n i j e =
-    let at : (d : ℕ) → getD (drop n s) (i + d) 0 ≡ getD s (j + d) 0 =
-    λ d. let q : n + (i + d) ≡ j + d = omega arith in getD-drop n s (i + d) 0 ∙ ap (λ (k : ℕ). getD s k 0) q in
-    let first : getD (drop n s) i 0 ≡ getD s j 0 = getD-drop n s i 0 ∙ ap (λ (k : ℕ). getD s k 0) (sym e) in
-    omega (arith, first, at 1, at 2, at 3)
-
 pub four-append : (w t : List ℕ) (p : ℕ) → p + 4 ≤ length w → four (w ++ t) p ≡ four w p
 unfolding four
 four-append w t p h =
     let at = List·getD-append w t 0 in
     omega (arith, at p (omega arith), at (p + 1) (omega arith), at (p + 2) (omega arith), at (p + 3) (omega arith))
+
+-- from a on the fours at these places cover all bytes below n
+abbrev pub Covers : ℕ → List ℕ → ℕ → Type 0
+Covers a [] n = n ≤ a
+Covers a (p ∷ ps) n = (p ≤ a) × Covers (p + 4) ps n
+
+-- the fours of two lists at places
+abbrev pub SameFours : (s w : List ℕ) → List ℕ → Type 0
+SameFours s w [] = Unit
+SameFours s w (p ∷ ps) = (four s p ≡ four w p) × SameFours s w ps
 
 module _ (s w : List ℕ) (bs : Bytes s) (bw : Bytes w) where
   pub same-four : (p : ℕ) → four s p ≡ four w p → (i : ℕ) → p ≤ i → i < p + 4 → getD s i 0 ≡ getD w i 0
@@ -64,25 +66,21 @@ module _ (s w : List ℕ) (bs : Bytes s) (bw : Bytes w) where
       at (suc (suc (suc zero))) l z = rw z (each-one .3)
       at (suc (suc (suc (suc d)))) l z = absurd (omega arith)
 
-  -- the fours at the start, at the end and from a place p in the middle cover the word
-  module _ (p : ℕ) (cover : (4 ≤ length w) × (p ≤ 4) × (length w ≤ p + 8))
-      (first : four s 0 ≡ four w 0) (middle : four s p ≡ four w p) (last : four s (length w - 4) ≡ four w (length w - 4)) where
-    same-byte : (i : ℕ) → i < length w → getD s i 0 ≡ getD w i 0
-    same-byte i h =
-        elim (decLt i 4) [
-          | yes l ↦ same-four 0 first i (omega arith) (omega arith)
-          | no l ↦
-              elim (decLt i (p + 4)) [
-                | yes g ↦ same-four p middle i (omega arith) (omega arith)
-                | no g ↦ same-four (length w - 4) last i (omega arith) (omega arith)
-              ]
-        ]
+  same-bytes : (ps : List ℕ) → SameFours s w ps → {a n : ℕ} → Covers a ps n → (i : ℕ) → a ≤ i → i < n → getD s i 0 ≡ getD w i 0
+  same-bytes [] e c i low high = absurd (omega arith)
+  same-bytes (p ∷ ps) e c i low high =
+      elim (decLt i (p + 4)) [
+        | yes h ↦ same-four p (e .0) i (omega (arith, c .0)) h
+        | no h ↦ same-bytes ps (e .1) (c .1) i (omega arith) high
+      ]
 
-    pub same-word : length w ≤ length s → w ++ drop (length w) s ≡ s
-    same-word fits =
-        let at : (i : ℕ) → i < length w → getD w i 0 ≡ getD (take (length w) s) i 0 = λ i h. sym (getD-take (length w) s i 0 h ∙ same-byte i h) in
-        let same = ext-getD 0 w (take (length w) s) (sym (length-take-le (length w) s fits)) at in
-        ap (λ (l : List ℕ). l ++ drop (length w) s) same ∙ take-append-drop (length w) s
+  -- a word stands at the start where fours that cover it agree
+  pub same-word : (ps : List ℕ) → SameFours s w ps → Covers 0 ps (length w) → length w ≤ length s → w ++ drop (length w) s ≡ s
+  same-word ps e c fits =
+      let at : (i : ℕ) → i < length w → getD w i 0 ≡ getD (take (length w) s) i 0 =
+      λ i h. sym (getD-take (length w) s i 0 h ∙ same-bytes ps e c i (omega arith) h) in
+      let same = ext-getD 0 w (take (length w) s) (sym (length-take-le (length w) s fits)) at in
+      ap (λ (l : List ℕ). l ++ drop (length w) s) same ∙ take-append-drop (length w) s
 
 -- two fours in one number
 pub both-fours : (s w : List ℕ) → Bytes s → Bytes w → (a b c d : ℕ) → four s a + 4294967296 * four s b ≡ four w c + 4294967296 * four w d
@@ -181,7 +179,7 @@ module _ (slotOf : List ℕ → ℕ) (spelled : ℕ → List ℕ) (n low : ℕ) 
               let same-o : outerOf s k ≡ outerOf w (length w) = eo ∙ ho ∙ h .1 .1 (outerFor spelled) in
               let ends = both-fours s w bytes bw 0 (length w - 4) 0 (length w - 4) (rw l at same-o) in
               let same-m : four s ((k - 4) / 2) ≡ four w ((length w - 4) / 2) = omega arith in
-              let all = same-word s w bytes bw ((length w - 4) / 2) (long .0, omega arith, omega arith) (ends .0) (rw l at same-m) (ends .1) in
+              let all = same-word s w bytes bw (0 ∷ ((length w - 4) / 2) ∷ (length w - 4) ∷ []) (ends .0, (rw l at same-m, (ends .1, tt))) (omega arith) in
               rw q (h .1 .0, l, rw l (all (omega arith)))
           | inr z ↦ absurd (omega (arith, z (innerFor spelled)))
         ]

@@ -55,21 +55,21 @@ abbrev pub wrapperSlot : List ℕ → ℕ
 wrapperSlot s = (2 * getD s 1 0 + 4 * getD s 2 0 + getD s 4 0) % 32
 
 -- the numbers of the seventeen wrappers without "on or", and their words
-abbrev pub plainNumber : ℕ → ℕ
-plainNumber k = cond (ltb k 17) (pred k) 32
+abbrev pub bareNumber : ℕ → ℕ
+bareNumber k = cond (ltb k 17) (pred k) 32
 
-abbrev pub plainWords : ℕ → List ℕ
-plainWords k = wrapperWords (wrapperOf (plainNumber k))
+abbrev pub bareWords : ℕ → List ℕ
+bareWords k = wrapperWords (wrapperOf (bareNumber k))
 
 -- what a slot holds of the words that have it: the first and the last four bytes, and the four from the fourth on with the number
 abbrev pub middleFor : ℕ → ℕ
-middleFor k = four (plainWords k) 3 + 4294967296 * plainNumber k
+middleFor k = four (bareWords k) 3 + 4294967296 * bareNumber k
 
 abbrev pub wrapperOuter : ℕ → ℕ
-wrapperOuter i = outerIn wrapperSlot plainWords 17 i
+wrapperOuter i = outerIn wrapperSlot bareWords 17 i
 
 abbrev pub wrapperMiddle : ℕ → ℕ
-wrapperMiddle i = held (λ k. wrapperSlot (plainWords k)) middleFor 17 i
+wrapperMiddle i = held (λ k. wrapperSlot (bareWords k)) middleFor 17 i
 
 -- no wrapper's words stand at the start
 abbrev pub Wordless : List ℕ → Type 0
@@ -93,11 +93,11 @@ abbrev pub eightOf : List ℕ → ℕ
 eightOf s = cond (ltb (length s) 13) (four s 3) (eightAt s 3)
 
 -- how many bytes more than countBy tells a wrapper's words have, by these: 6 for "on or after", 7 for "on or before", which is longer by one; else 0
-abbrev pub onOr : ℕ → ℕ
-onOr e = cond (eqb e (eightAt (bytes " on or a") 0)) 6 (cond (eqb e (eightAt (bytes " on or b") 0)) 7 0)
+abbrev pub moreBy : ℕ → ℕ
+moreBy e = cond (eqb e (eightAt (bytes " on or a") 0)) 6 (cond (eqb e (eightAt (bytes " on or b") 0)) 7 0)
 
 -- what the first bytes of a phrase s tell of the words that it may begin with: how many bytes they have, and how many of them more for "on or"
 pub record LeadTold (s : List ℕ) (more count : ℕ) : Type 0 where
   pub enough : 7 ≤ length s
-  pub on-or : more ≡ onOr (eightOf s)
-  pub told : count ≡ countBy (eightOf s % 4294967296) + more
+  pub more-told : more ≡ moreBy (eightOf s)
+  pub count-told : count ≡ countBy (eightOf s % 4294967296) + more

@@ -9,7 +9,7 @@ ghost use mathlib.Core.Path.{_≡_};
 ghost use Prim.Native.Nat.{_+_, _*_, _%_, _≤_};
 ghost use lib.Dec.{eqb};
 ghost use lib.ListN.{length};
-ghost use Rattle.words.specs.Steps.{wrapperOuter, wrapperMiddle, countBy, MayLead, eightOf, onOr, LeadTold};
+ghost use Rattle.words.specs.Steps.{wrapperOuter, wrapperMiddle, countBy, MayLead, eightOf, moreBy, LeadTold};
 ghost use Rattle.words.specs.Wrapper.{TellsLead};
 
 // What stands before a phrase and moves its day, as the definitions have it; the code goes by numbers.
@@ -134,8 +134,8 @@ fn eight_of(phrase: &[u8]) -> u64
 }
 
 // How many bytes more than count_by tells a wrapper's words have, by these eight: 6 for "on or after", 7 for "on or before", which is longer by one; else 0.
-fn on_or(eight: u64) -> usize
-    ensures { λ r. ⌜ r ≡ onOr eight ⌝ }
+fn more_by(eight: u64) -> usize
+    ensures { λ r. ⌜ r ≡ moreBy eight ⌝ }
 {
     // " on or a", and " on or b"
     if eight == 0x6120726f206e6f20 {
@@ -192,7 +192,7 @@ pub fn lead_of(phrase: &[u8]) -> Found
         return no_lead();
     }
     let eight = eight_of(phrase);
-    let more = on_or(eight);
+    let more = more_by(eight);
     let count = count_by(eight % 4294967296) + more;
     if phrase.len() < count {
         return no_lead();

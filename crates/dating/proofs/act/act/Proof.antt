@@ -56,7 +56,7 @@ its-answer c =
     let start = side .before in
     let a = start .before .before .args in
     let good = start .before .before .pre .0 in
-    elim (rw (its-number (a .number) good) at (acts-by (wrapperOf (a .number)) good (a .day))) [
+    elim (rw (its-number (a .number)) at (acts-by (wrapperOf (a .number)) good (a .day))) [
       | inl days ↦ ⊎-elim (λ w. w .1 ∙ sym (days .1)) (λ w. absurd (w .0 .left (days .0))) (c .if2 .came)
       | inr search ↦
           ⊎-elim (λ w. absurd (search .0 (w .0 .taken)))

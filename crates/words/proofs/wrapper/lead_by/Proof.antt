@@ -17,11 +17,6 @@ skips c =
 seven : (c : tie.Start) → 7 ≤ c .args .count
 seven c = inside (c .args .phrase .now) (c .pre .0) (c .pre .1) .0
 
-sixteen : (c : tie.After-if-counted2) → c .if-counted2 .result ≤ 16
-sixteen c =
-    let start = c .before .before .before .before .before .before .before .before .before .before .before .before .before .before .before in
-    rw (c .if-counted2 .ensures) (inside (start .args .phrase .now) (start .pre .0) (start .pre .1) .2 16)
-
 -- the first and the last four bytes as one number
 ends : (c : tie.After-pack8)
     → let a = c .before .before .before .before .before .before .before .before .before .args in
@@ -40,8 +35,8 @@ fails o hm no-match =
     let slot = o .before .before .before .before in
     let counted = slot .before .before .before .before in
     let start = counted .before .before in
-    not-these (start .args .phrase .now) (λ i. omega (arith, slot .before .shared-slice-known4 .given i)) (start .pre .0) (counted .if-counted .ensures)
-    (slot .slot .ensures) (o .outer-in .ensures) hm (λ eo em. no-match (ends (o .before) ∙ eo) em)
+    not-these (start .args .phrase .now) (start .pre .0) (counted .if-counted .ensures) (slot .slot .ensures) (o .outer-in .ensures) hm
+    (λ eo em. no-match (ends (o .before) ∙ eo) em)
 
 returns : tie.Need-returns
 returns c = rw (c .no-lead .ensures) (fails (c .before .before) refl (λ eo em. c .before .if1 .taken eo))
@@ -49,7 +44,8 @@ returns c = rw (c .no-lead .ensures) (fails (c .before .before) refl (λ eo em. 
 returns-2 : tie.Need-returns-2
 returns-2 c =
     let m = c .before .before .before in
-    rw (c .no-lead2 .ensures) (fails (m .before .before) (m .middle-in .ensures) (λ eo em. c .before .if2 .taken (em ∙ sym (c .before .before .four-at3 .ensures))))
+    rw (c .no-lead2 .ensures)
+    (fails (m .before .before) (m .middle-in .ensures) (λ eo em. c .before .if2 .taken (em ∙ sym (c .before .before .four-at3 .ensures))))
 
 returns-3 : tie.Need-returns-3
 returns-3 c =
@@ -58,9 +54,14 @@ returns-3 c =
     let slot = o .before .before .before .before in
     let counted = slot .before .before .before .before in
     let start = counted .before .before in
-    these-words (start .args .phrase .now) (λ i. omega (arith, slot .before .shared-slice-known4 .given i)) (start .pre .0) (counted .if-counted .ensures)
-    (slot .slot .ensures) (o .outer-in .ensures) (m .middle-in .ensures) (start .pre .1) (sym (ends (o .before)) ∙ m .before .if1 .left)
+    these-words (start .args .phrase .now) (start .pre .0) (counted .if-counted .ensures) (slot .slot .ensures) (o .outer-in .ensures) (m .middle-in .ensures)
+    (λ i. omega (arith, slot .before .shared-slice-known4 .given i)) (start .pre .1) (sym (ends (o .before)) ∙ m .before .if1 .left)
     (c .before .if2 .left ∙ c .before .before .four-at3 .ensures) (c .if-counted2 .ensures)
+
+sixteen : (c : tie.After-if-counted2) → c .if-counted2 .result ≤ 16
+sixteen c =
+    let start = c .before .before .before .before .before .before .before .before .before .before .before .before .before .before .before in
+    rw (c .if-counted2 .ensures) (inside (start .args .phrase .now) (start .pre .0) (start .pre .1) .2 16)
 
 pub lead-by-spec : {M : Type 1} → statement M
 lead-by-spec =

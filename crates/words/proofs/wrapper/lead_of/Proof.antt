@@ -16,23 +16,24 @@ returns c =
     let may = c .before .before .may-lead in
     rw (c .no-lead .ensures) (plain (rw (not-true (may .result) (c .before .if1 .taken)) at (may .ensures)))
 
-small : (c : tie.After-count-by) → (c .count-by .result ≤ 11) × (c .before .on-or .result ≤ 7)
-small c = (rw (c .count-by .ensures) (count-small _ .1), rw (c .before .on-or .ensures) (more-small _))
+small : (c : tie.After-count-by) → (c .count-by .result ≤ 11) × (c .before .more-by .result ≤ 7)
+small c = (rw (c .count-by .ensures) (count-small _ .1), rw (c .before .more-by .ensures) (more-small _))
 
 told : (c : tie.After-count-by)
-    → LeadTold (c .before .before .before .before .before .before .args .phrase .now) (c .before .on-or .result) (c .count-by .result + c .before .on-or .result)
+    → LeadTold (c .before .before .before .before .before .before .args .phrase .now) (c .before .more-by .result)
+    (c .count-by .result + c .before .more-by .result)
 told c =
     let eight = c .before .before .eight-of .ensures in
     record {
       enough = seven (c .before .before .before);
-      on-or = rw (← eight) (c .before .on-or .ensures);
-      told = rw (← eight, c .count-by .ensures);
+      more-told = rw (← eight) (c .before .more-by .ensures);
+      count-told = rw (← eight, c .count-by .ensures);
     }
 
 returns-2 : tie.Need-returns-2
 returns-2 c =
     let start = c .before .before .before .before .before .before .before in
-    rw (c .no-lead2 .ensures) (no-space (start .before .args .phrase .now) (λ i. omega (arith, start .shared-slice-known .given i)) (told (c .before .before)) (c .before .if2 .taken))
+    rw (c .no-lead2 .ensures) (no-space (start .before .args .phrase .now) (told (c .before .before)) (c .before .if2 .taken))
 
 pub lead-of-spec : {M : Type 1} → statement M
 lead-of-spec =

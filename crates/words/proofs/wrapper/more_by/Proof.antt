@@ -1,11 +1,11 @@
 use borrow.Author.Tests.{eq-eqb, ne-eqb}
 use Rattle.words.specs.Steps.{four}
-use Rattle.words.proofs.wrapper.on_or.Statement.{statement}
-use Rattle.words.proofs.wrapper.on_or.Tie as tie
+use Rattle.words.proofs.wrapper.more_by.Statement.{statement}
+use Rattle.words.proofs.wrapper.more_by.Tie as tie
 
-pub on-or-spec : {M : Type 1} → statement M
+pub more-by-spec : {M : Type 1} → statement M
 unfolding four
-on-or-spec =
+more-by-spec =
     tie.close
     (tie.spec
     (λ c. rw (eq-eqb _ 0x6120726f206e6f20 (c .if1 .taken)))
