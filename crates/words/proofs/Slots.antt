@@ -51,7 +51,7 @@ SameFours s w [] = Unit
 SameFours s w (p ∷ ps) = (four s p ≡ four w p) × SameFours s w ps
 
 module _ (s w : List ℕ) (bs : Bytes s) (bw : Bytes w) where
-  pub same-four : (p : ℕ) → four s p ≡ four w p → (i : ℕ) → p ≤ i → i < p + 4 → getD s i 0 ≡ getD w i 0
+  same-four : (p : ℕ) → four s p ≡ four w p → (i : ℕ) → p ≤ i → i < p + 4 → getD s i 0 ≡ getD w i 0
   unfolding four
   same-four p e i low high = at (i - p) (omega arith) (omega arith)
     where

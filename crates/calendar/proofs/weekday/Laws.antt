@@ -40,11 +40,11 @@ latest-small Uncounted Before n = omega arith
 -- the search goes from the day n or from the next
 later-from : (c : Start) (n : ℕ) → latestOfSeven c After n ≡ searchFrom c After n + 13
 later-from Counted n = omega arith
-later-from Uncounted n = let next : n + 14 ≡ suc n + 13 = omega arith in next
+later-from Uncounted n = let next : suc n ≡ n + 1 = omega arith in rw next (omega arith)
 
 earlier-from : (c : Start) (n : ℕ) → searchFrom c Before n ≡ latestOfSeven c Before n - 7
 earlier-from Counted n = omega arith
-earlier-from Uncounted n = let next : pred n ≡ n + 6 - 7 = omega arith in next
+earlier-from Uncounted n = let next : pred n ≡ n - 1 = omega arith in rw next (omega arith)
 
 -- no day falls on a number that is no weekday
 pub no-weekday : (c : Start) (x : Side) (w n : ℕ) → (1 ≤ w → w ≤ 7 → ⊥) → firstWeekday c x w n ≡ 0

@@ -1,5 +1,5 @@
 use mathlib.Core.Bool.{true}
-use mathlib.Core.Path.{sym, _∙_, _≡_}
+use mathlib.Core.Path.{sym, _∙_, _≡_, ap}
 use borrow.Author.Needs.{needs}
 use Rattle.calendar.proofs.refusal.Laws.{passed-day, refused-by}
 use Rattle.church.proofs.feast.Laws.{november-answer}
@@ -19,7 +19,7 @@ returns-2 : tie.Need-returns-2
 unfolding within adventSunday
 returns-2 c =
     let d = is-day (c .before .before .before) in
-    rw (d .0, d .1, ← c .before .first-weekday .ensures) (c .day-within .ensures)
+    rw (d .0, d .1) (c .day-within .ensures ∙ ap (within _) (c .before .first-weekday .ensures))
 
 returns : tie.Need-returns
 returns c =
