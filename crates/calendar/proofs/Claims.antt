@@ -14,15 +14,17 @@ use Rattle.calendar.proofs.distance.Laws.{both-days, distance-size, zer
 use Rattle.calendar.proofs.span.Laws.{span-small}
 use Rattle.calendar.proofs.style.Laws.{by-number, both-in, given-by-number, given-of-any}
 use Rattle.calendar.proofs.weekday.Laws.{is-later, is-earlier}
+use Rattle.calendar.proofs.year.Laws.{leap-returns, new-year-returns}
 use Rattle.calendar.specs.Date.{daysOfMonths, isDate, dayNumber, dateTests, dayInYear, dayOfDate, nextDate}
 use Rattle.calendar.specs.Date.{IsDateOf, IsDateOfDay, dateRefusal, dateNumbers}
 use Rattle.calendar.specs.Distance.{distanceOfDays}
 use Rattle.calendar.specs.Range.{between}
 use Rattle.calendar.specs.Refusal.{Holds, Lowest}
+use Rattle.calendar.specs.Return.{ReturnsAfter, sunCycle}
 use Rattle.calendar.specs.Span.{firstDay, lastDay, earliest, inSpan, spanTests, dayOrRefusal}
 use Rattle.calendar.specs.Style.{styleNumber, styleBy, styleOf, styleRefusal, styleOrZero, byNumber}
 use Rattle.calendar.specs.Weekday.{weekday, weekdayOfDay, weekdayRefusal, firstWeekday, leastAway}
-use Rattle.calendar.specs.Year.{named, daysOfYears, newYear, served}
+use Rattle.calendar.specs.Year.{named, leap, daysOfYears, newYear, served}
 use Rattle.calendar.specs.declared.date.DateAnswer.the-variants.{On, NoDate}
 use Rattle.calendar.specs.declared.date.DateAnswer.{DateAnswer}
 use Rattle.calendar.specs.declared.distance.DistanceAnswer.the-variants.{Days}
@@ -195,3 +197,11 @@ before-differ w n low high late =
     let f = is-earlier Counted w n low high late in
     let g = is-earlier Uncounted w n low high late in
     (λ e. (omega arith, omega arith), λ other. omega arith)
+
+-- After 28 years in J, and after 400 in G, the same years are leap, and each date falls on the same weekday.
+pub leap-years-return : (s : Style) → ReturnsAfter (sunCycle s) (leap s)
+leap-years-return = leap-returns
+
+pub weekdays-return : (s : Style) (m d : ℕ) → ReturnsAfter (sunCycle s) (λ y. weekday (dayNumber s y m d))
+unfolding dayNumber
+weekdays-return s m d y h = rw (leap-returns s y h, new-year-returns s y h) (omega arith)

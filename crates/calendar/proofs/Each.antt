@@ -1,7 +1,7 @@
 -- A test that antt computes at each number below a bound, and what it says at one of them; and a number that is none of the first ones.
 use mathlib.Core.Bool.{Bool, true, false, _&&_}
 use mathlib.Core.Path.{_≡_, refl, subst}
-use Prim.Native.Nat.{ℕ, zero, suc, _<_, _≤_}
+use Prim.Native.Nat.{ℕ, zero, suc, _+_, _-_, _<_, _≤_}
 use native.Mathlib.Decide.{decLt}
 use native.Mathlib.Omega.{arith}
 use lib.Dec.{T}
@@ -26,7 +26,13 @@ below f (suc n) t k h =
       | no g ↦ subst (λ (j : ℕ). T (f j)) (omega arith) (T-both (f n) (each f n) t .0)
     ]
 
--- the same for a test that a truth value takes part in
+-- the same for the numbers from 1 to n
+pub from-1 : (f : ℕ → Bool) (n : ℕ) → T (each (λ i. f (i + 1)) n) → (k : ℕ) → (1 ≤ k) × (k ≤ n) → T (f k)
+from-1 f n t k r =
+    let number : k - 1 + 1 ≡ k = omega (arith, r) in
+    rw number at (below (λ i. f (i + 1)) n t (k - 1) (omega (arith, r)))
+
+-- and for a test that a truth value takes part in
 pub of-both : (f : Bool → ℕ → Bool) (n : ℕ) → T (each (λ k. f true k && f false k) n) → (b : Bool) (k : ℕ) → k < n → T (f b k)
 of-both f n t true k h = T-both (f true k) (f false k) (below (λ k. f true k && f false k) n t k h) .0
 of-both f n t false k h = T-both (f true k) (f false k) (below (λ k. f true k && f false k) n t k h) .1

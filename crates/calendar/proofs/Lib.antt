@@ -2,5 +2,6 @@
 mod Counting
 pub mod Each
 pub mod Searches
+pub mod Table
 pub mod Tested
 pub mod Claims

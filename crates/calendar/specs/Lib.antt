@@ -4,6 +4,7 @@ pub mod Refusal
 pub mod Search
 pub mod Style
 pub mod Year
+pub mod Return
 pub mod Span
 pub mod Date
 pub mod Weekday

@@ -3,26 +3,30 @@ use mathlib.Core.Bool.{true, false}
 use mathlib.Core.List.{[], _∷_}
 use mathlib.Core.Logic.{_↔_}
 use mathlib.Core.Path.{_≡_, refl, sym, _∙_, ap}
-use Prim.Native.Nat.{ℕ, _+_, _≤_, _<_}
+use Prim.Native.Nat.{ℕ, _+_, _≤_, _<_, _∣_}
 use native.Mathlib.Omega.{arith}
 use lib.IntN.{ℤ, pos, _+ℤ_, _*ℤ_}
 use lib.ListN.{length}
+use Rattle.calendar.proofs.Table.{All}
 use Rattle.calendar.proofs.span.Laws.{span-small}
 use Rattle.calendar.proofs.style.Laws.{by-number, both-in, given-by-number, given-of-any}
 use Rattle.church.proofs.arithmetic.Laws as arithmetic-laws
 pub use Rattle.church.proofs.arithmetic.Laws.{brought-by-thirties}
 use Rattle.church.proofs.column.Laws.{walked}
 use Rattle.church.proofs.easter.Laws as easter-laws
-pub use Rattle.church.proofs.easter.Laws.{firstEaster, easter-years, limit-range, easter-in-span}
+pub use Rattle.church.proofs.easter.Laws.{firstEaster, easter-years, limit-range, equinox-closed, easter-in-span}
 use Rattle.church.proofs.epact.Laws as epact-laws
 pub use Rattle.church.proofs.epact.Laws.{epact-small}
 use Rattle.church.proofs.feast.Laws as feast-laws
-pub use Rattle.church.proofs.feast.Laws.{feast-date-exists, matthias-before-march, only-matthias}
+pub use Rattle.church.proofs.feast.Laws.{feast-date-exists, feast-in-year, matthias-before-march, only-matthias}
 use Rattle.church.proofs.letter.Laws as letter-laws
+use Rattle.church.proofs.period.Laws as period-laws
+pub use Rattle.church.proofs.period.Laws.{same-key, same-limit, same-letters, same-feasts}
 pub use Rattle.church.proofs.sheet.Laws.{one-answer-in-year}
 use Rattle.calendar.specs.Date.{isDate, dayNumber}
 use Rattle.calendar.specs.Range.{between}
 use Rattle.calendar.specs.Refusal.{Holds, Lowest}
+use Rattle.calendar.specs.Return.{ReturnsAfter, DiffersAfter}
 use Rattle.calendar.specs.Span.{earliest, dayOrRefusal}
 use Rattle.calendar.specs.Style.{styleNumber, styleOf, byNumber}
 use Rattle.calendar.specs.Weekday.{weekday, sunday}
@@ -33,6 +37,7 @@ use Rattle.church.specs.Easter.{limit, march, easter, key, hasEaster, ea
 use Rattle.church.specs.Epact.{golden, hundreds, gregorianSum, epact, arabic}
 use Rattle.church.specs.Feast.{_is_, onOrInLeapYears, feasts, feastOf, rule, adventSunday, ruleNumber, feastTests, feastInYear, feastOfYear}
 use Rattle.church.specs.Letter.{letterOf, Part, first, second, inPart, SundayLetter}
+use Rattle.church.specs.Period.{period, shorter, TablesReturn}
 use Rattle.church.specs.Sheet.{IsSheetOf, IsSheetOfYear, sheetRefusal, yes, sheetNumbers}
 use Rattle.calendar.specs.declared.span.DayAnswer.the-variants.{Day, NoDay}
 use Rattle.calendar.specs.declared.style.Style.the-variants.{Gregorian}
@@ -85,12 +90,9 @@ one-limit = arithmetic-laws.one-limit
 
 -- The key lies from 1 to 35, and counts from 21 March to Easter.
 pub key-range : (s : Style) (y : ℕ) → (1 ≤ key s y) × (key s y ≤ 35) × (march s y 21 + key s y ≡ easter s y)
-unfolding key
 key-range s y =
     let f = easter-laws.easter-facts s y in
-    let low = f .key-low in
-    let high = f .key-high in
-    (omega arith, omega arith, omega arith)
+    (omega (arith, f), omega (arith, f), f .by-key)
 
 -- Easter is a Sunday, later than the limit by at most seven days.
 pub easter-sunday : (s : Style) (y : ℕ)
@@ -165,3 +167,22 @@ one-advent s y n from to falls =
     let a = advent-sunday s y in
     let w = feast-laws.week-long s y in
     omega arith
+
+-- What the tables hang on: the key on the limit and the weekday of 21 March alone (`same-key`); the limit on the golden number and, in G, on the hundreds by
+-- their correction alone (`same-limit`); 21 March, and so its weekday, on the year by a closed form (`equinox-closed`); the letters and the feasts' days of the year
+-- on the key and on whether the year is leap alone (`same-letters`, `same-feasts`). Every feast lies in its year (`feast-in-year`).
+-- J keys return after 532 years, and G keys after 5,700,000.
+pub keys-return : (s : Style) → ReturnsAfter (period s) (key s)
+keys-return = period-laws.keys-return
+
+-- With them return whether the year is leap, golden number, epact and whether Arabic, Sunday letters, limit, and every feast's day of the year.
+pub tables-return : (s : Style) → TablesReturn s (period s)
+tables-return = period-laws.tables-return
+
+-- J keys do not return after 266, 76 or 28 years throughout, nor do G keys after 2,850,000, 1,900,000, 1,140,000 or 300,000.
+pub keys-differ : (s : Style) → All (λ k. DiffersAfter k (key s)) (shorter s)
+keys-differ = period-laws.keys-differ
+
+-- The period is the least: the keys return after k years throughout exactly where it divides k.
+pub key-period : (s : Style) (k : ℕ) → ReturnsAfter k (key s) ↔ (period s ∣ k)
+key-period = period-laws.key-period

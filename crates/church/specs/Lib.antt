@@ -6,3 +6,4 @@ pub mod Easter
 pub mod Letter
 pub mod Sheet
 pub mod Feast
+pub mod Period

@@ -7,7 +7,7 @@ use Prim.Native.Nat.{ℕ}
 use Prim.Native.String.{String}
 use native.Mathlib.Omega.{arith}
 use lib.ListN.{length}
-use Rattle.dating.proofs.Table.{All, none, _also_}
+use Rattle.calendar.proofs.Table.{All, none, _also_}
 use Rattle.church.proofs.letter.Laws.{sundays}
 use Rattle.calendar.specs.Date.{daysOfMonths, isDate, dayNumber}
 use Rattle.calendar.specs.Range.{between}

@@ -1,5 +1,4 @@
 -- Claims and Known are what is promised of the dating line, the writer and the answers beyond their contracts;
 -- the rest are steps to them, each subject's in its folder.
-mod Table
 pub mod Claims
 pub mod Known

@@ -1,19 +1,30 @@
 -- Counted years in closed form, and the one year that holds a day.
 use mathlib.Core.Bool.{Bool, true, false, _&&_, _||_, not, cond}
-use mathlib.Core.Path.{_≡_, refl}
+use mathlib.Core.Path.{_≡_, refl, _∙_, ap}
 use Prim.Native.Nat.{ℕ, zero, suc, _+_, _-_, _*_, _/_, _%_, _≤_, _<_}
-use native.Mathlib.Nat.{le-refl, zero-mul, suc-mul, add-mul, one-mul, div-add-mod', mod-lt, div-eq-of-lt-le}
+use native.Mathlib.Nat.{le-refl, zero-mul, suc-mul, add-mul, one-mul, div-add-mod', mod-lt, div-eq-of-lt-le, add-mul-mod-self-right}
 use native.Mathlib.Numerals.{add-one}
 use native.Mathlib.Omega.{arith}
 use borrow.Author.Tests.{eqb-true, eqb-false}
 use Rattle.calendar.proofs.Counting.{rises, not-after, one-place}
-use Rattle.calendar.specs.Year.{divides, yearLength, daysOfYears, firstNewYear, newYear, YearOf}
+use Rattle.calendar.specs.Return.{ReturnsAfter, sunCycle}
+use Rattle.calendar.specs.Year.{divides, leap, yearLength, daysOfYears, firstNewYear, newYear, YearOf}
 use Rattle.calendar.specs.declared.style.Style.the-variants.{Julian, Gregorian}
 use Rattle.calendar.specs.declared.style.Style.{Style}
 
 -- 1 for yes
 abbrev bit : Bool → ℕ
 bit b = cond b 1 0
+
+-- remainders, and so leap years, return after a multiple
+remainder-returns : (y k d : ℕ) → k % d ≡ 0 → (y + k) % d ≡ y % d
+remainder-returns y k d h =
+    let whole : k ≡ k / d * d = omega (arith, div-add-mod' k d) in
+    ap (λ (n : ℕ). (y + n) % d) whole ∙ add-mul-mod-self-right y (k / d) d
+
+pub leap-returns : (s : Style) → ReturnsAfter (sunCycle s) (leap s)
+leap-returns Julian y h = simp remainder-returns
+leap-returns Gregorian y h = simp remainder-returns
 
 -- the quotient of a number that lies from one multiple up to the next
 quotient : (k n q : ℕ) → q * k ≤ n → n < q * k + k → n / k ≡ q
@@ -143,3 +154,20 @@ pub estimate-low : (s : Style) (n y : ℕ) → newYear s (y + 1) ≤ n → n < n
 estimate-low s n y from to =
     let e : y + 2 ≡ y + 1 + 1 = omega arith in
     estimate-right s n (y + 1) (omega arith) from (rw e at to)
+
+-- the sun's cycle has whole weeks
+abbrev pub cycleWeeks : Style → ℕ
+cycleWeeks Julian = 1461
+cycleWeeks Gregorian = 20871
+
+closed-returns : (s : Style) (n : ℕ) → closed s (n + sunCycle s) ≡ closed s n + 7 * cycleWeeks s
+closed-returns Julian n = omega arith
+closed-returns Gregorian n =
+    let fours : (n + 400) / 4 ≡ n / 4 + 100 = omega arith in
+    let centuries : (n + 400) / 100 ≡ n / 100 + 4 = omega arith in
+    rw (fours, centuries) (omega (arith, choices-small Gregorian n))
+
+pub new-year-returns : (s : Style) (y : ℕ) → 1 ≤ y → newYear s (y + sunCycle s) ≡ newYear s y + 7 * cycleWeeks s
+new-year-returns s y h =
+    let e : y + sunCycle s - 1 ≡ y - 1 + sunCycle s = omega arith in
+    rw (new-year-at s (y + sunCycle s) (omega arith), e, closed-returns s (y - 1), new-year-at s y h) (omega arith)

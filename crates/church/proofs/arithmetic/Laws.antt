@@ -6,7 +6,7 @@ use native.Mathlib.Omega.{arith}
 use lib.Dec.{T, leb, ltb, eqb, eqb→eq}
 use lib.IntN.{ℤ, pos, _+ℤ_, _-ℤ_, _*ℤ_, +ℤ-assoc, -ℤ-+ℤ-cancel}
 use borrow.Author.Tests.{le-ltb, leb-true, leb-false}
-use Rattle.calendar.proofs.Each.{each, below}
+use Rattle.calendar.proofs.Each.{each, below, from-1}
 use Rattle.church.proofs.epact.Laws.{golden-range, less, sum-closed, by30-rest, by30-small, epact-small}
 use Rattle.calendar.specs.Range.{between}
 use Rattle.calendar.specs.Search.{firstOf}
@@ -26,7 +26,7 @@ minus x (suc y) h = rw (le-ltb x (suc y) h)
 abbrev pub z : ℕ → ℕ
 z c = 3 + c - c / 4 - (8 * c + 13) / 25
 
-z-closed : (c : ℕ) → zOf c ≡ pos (z c)
+pub z-closed : (c : ℕ) → zOf c ≡ pos (z c)
 z-closed c = rw (minus (3 + c) (c / 4) (omega arith), minus (3 + c - c / 4) ((8 * c + 13) / 25) (omega arith))
 
 -- What is brought into 21 to 50 by thirties lies there, and differs by a multiple of 30.
@@ -49,39 +49,42 @@ gregorian-closed g c b h = rw (z-closed c, minus (44 + z c) b (omega arith), bro
 abbrev fromEpact : ℕ → ℕ
 fromEpact e = cond (leb e 23) (44 - e) (74 - e)
 
--- the epact is b less Z, by thirties
-epact-sum : (g c : ℕ) → 1 ≤ g → by30 (gregorianSum g c) ≡ (11 * g + 30 * c - z c) % 30
-epact-sum g c h = rw (sum-closed g c) (ap (λ n. n % 30) (omega arith))
+less-by-30 : (n m k : ℕ) → k ≤ n + 30 * m → (n + 30 * m - k) % 30 ≡ (n + 30 - k % 30) % 30
+less-by-30 n m k h = omega arith
 
-by-epact : (n m k : ℕ) (t : Bool) → k ≤ n + 30 * m → leb ((n + 30 * m - k) % 30) 23 ≡ t
-    → 21 + (44 + k - n % 30 + 9) % 30 ≡ cond t (44 - (n + 30 * m - k) % 30) (74 - (n + 30 * m - k) % 30)
-by-epact n m k true h e = omega (arith, leb-true)
-by-epact n m k false h e = omega (arith, leb-false)
+-- the epact is b less Z, by thirties
+pub epact-sum : (g c : ℕ) → 1 ≤ g → by30 (gregorianSum g c) ≡ (11 * g + 30 - z c % 30) % 30
+epact-sum g c h = rw (sum-closed g c) (ap (λ n. n % 30) (omega arith) ∙ less-by-30 (11 * g) c (z c) (omega arith))
+
+by-epact : (n k : ℕ) (t : Bool) → leb ((n + 30 - k % 30) % 30) 23 ≡ t
+    → 21 + (44 + k - n % 30 + 9) % 30 ≡ cond t (44 - (n + 30 - k % 30) % 30) (74 - (n + 30 - k % 30) % 30)
+by-epact n k true e = omega (arith, leb-true)
+by-epact n k false e = omega (arith, leb-false)
 
 from-epact : (g c : ℕ) → 1 ≤ g → 21 + (44 + z c - bOf g + 9) % 30 ≡ fromEpact (by30 (gregorianSum g c))
-from-epact g c h = rw (epact-sum g c h) (by-epact (11 * g) c (z c) _ (omega arith) refl)
+from-epact g c h = rw (epact-sum g c h) (by-epact (11 * g) (z c) _ refl)
 
--- its exceptions, for each epact and the golden number k + 1
+-- its exceptions, for each epact and golden number
 settled-test : ℕ → ℕ → Bool
-settled-test e k = eqb (settled (k + 1) (fromEpact e)) (walk Gregorian e (eqb e 25 && ltb 11 (k + 1)) + 13)
+settled-test e g = eqb (settled g (fromEpact e)) (walk Gregorian e (eqb e 25 && ltb 11 g) + 13)
 
-settled-tested : (e k : ℕ) → e < 30 → k < 19 → T (settled-test e k)
+settled-tested : (e g : ℕ) → e < 30 → (1 ≤ g) × (g ≤ 19) → T (settled-test e g)
 unfolding settled-test firstOf stands between
-settled-tested e k h h′ = below (settled-test e) 19 (below (λ e. each (settled-test e) 19) 30 tt e h) k h′
+settled-tested e g h r = from-1 (settled-test e) 19 (below (λ e. each (λ i. settled-test e (i + 1)) 19) 30 tt e h) g r
 
 julian-test : ℕ → Bool
-julian-test k = eqb (julianLimit (bOf (k + 1))) (walk Julian (11 * (k + 1) % 30) false + 13)
+julian-test g = eqb (julianLimit (bOf g)) (walk Julian (11 * g % 30) false + 13)
 
-julian-tested : (k : ℕ) → k < 19 → T (julian-test k)
+julian-tested : (g : ℕ) → (1 ≤ g) × (g ≤ 19) → T (julian-test g)
 unfolding julian-test firstOf stands between
-julian-tested k h = below julian-test 19 tt k h
+julian-tested g r = from-1 julian-test 19 tt g r
 
 -- The arithmetic and the month column give one limit.
 pub one-limit : (s : Style) (y : ℕ) → arithmeticLimit s y ≡ limit s y
-unfolding arithmeticLimit limit luna epact arabic golden settled-test julian-test
-one-limit Julian y = eqb→eq _ _ (julian-tested (y % 19) (omega arith))
+unfolding arithmeticLimit limit luna epact arabic settled-test julian-test
+one-limit Julian y = eqb→eq _ _ (julian-tested (golden y) (golden-range y))
 one-limit Gregorian y =
     let g = golden y in
     let c = hundreds y in
     rw (gregorian-closed g c (bOf g) (omega arith), from-epact g c (golden-range y .0))
-    (eqb→eq _ _ (settled-tested (by30 (gregorianSum g c)) (y % 19) (omega (arith, epact-small Gregorian y)) (omega arith)))
+    (eqb→eq _ _ (settled-tested (by30 (gregorianSum g c)) g (omega (arith, epact-small Gregorian y)) (golden-range y)))

@@ -5,9 +5,9 @@ use Prim.Native.Nat.{ℕ, _+_, _-_, _*_, _%_, _≤_, _<_}
 use native.Mathlib.Omega.{arith}
 use lib.Dec.{T, ltb, eqb, eqb→eq}
 use borrow.Author.Tests.{eqb-true}
-use Rattle.calendar.proofs.Each.{each, below, of-both, T-both, is-true}
+use Rattle.calendar.proofs.Each.{each, below, from-1, of-both, T-both, is-true}
 use Rattle.calendar.proofs.range.Laws.{range}
-use Rattle.church.proofs.epact.Laws.{epact-small}
+use Rattle.church.proofs.epact.Laws.{golden-range, epact-small}
 use Rattle.calendar.specs.Range.{between}
 use Rattle.calendar.specs.Search.{firstOf}
 use Rattle.church.specs.Column.{stands, walk, luna}
@@ -59,8 +59,8 @@ only-25 true b = or-true (not b)
 only-25 false b = refl
 
 year-has : (s : Style) (y : ℕ) → T (canHave s (epact s y) (arabic s y))
-unfolding canHave epact arabic golden between
-year-has Julian y = below (λ k. canHave Julian (11 * (k + 1) % 30) false) 19 tt (y % 19) (omega arith)
+unfolding canHave epact arabic between
+year-has Julian y = from-1 (λ g. canHave Julian (11 * g % 30) false) 19 tt (golden y) (golden-range y)
 year-has Gregorian y = subst T (sym (only-25 (eqb (epact Gregorian y) 25) (ltb 11 (golden y)))) tt
 
 implies : Bool → Bool → Bool

@@ -2,8 +2,9 @@
 use mathlib.Core.Bool.{Bool, true, false, _&&_, not, cond, and-eq-true-iff}
 use mathlib.Core.Logic.{_↔_}
 use mathlib.Core.Path.{_≡_, refl, sym, _∙_, ap}
-use Prim.Native.Nat.{ℕ, suc, _+_, _-_, _≤_, _<_}
+use Prim.Native.Nat.{ℕ, _+_, _-_, _%_, _≤_, _<_}
 use native.Mathlib.Nat.{add-zero}
+use native.Mathlib.Numerals.{add-one}
 use native.Mathlib.Omega.{arith}
 use lib.Dec.{T, leb, leb→le}
 use lib.IntN.{ℤ, pos, negsuc}
@@ -12,14 +13,14 @@ use Rattle.calendar.proofs.range.Laws.{in-range}
 use Rattle.calendar.proofs.refusal.Laws.{no-day, passed}
 use Rattle.calendar.proofs.span.Laws.{span-range, span-small, served-range, served-small, span-start, in-span-from}
 use Rattle.calendar.proofs.weekday.Laws.{is-later}
-use Rattle.calendar.proofs.year.Laws.{year-up}
+use Rattle.calendar.proofs.year.Laws.{closed, new-year-closed, year-up}
 use Rattle.church.proofs.column.Laws.{luna-range}
 use Rattle.calendar.specs.Date.{daysOfMonths, isDate, dayNumber, dateTests, dayInYear}
 use Rattle.calendar.specs.Range.{between}
 use Rattle.calendar.specs.Span.{firstDay, earliest, latest, inSpan}
 use Rattle.calendar.specs.Weekday.{weekday, sunday, firstWeekday}
-use Rattle.calendar.specs.Year.{named, leap, newYear, served}
-use Rattle.church.specs.Easter.{limit, march, easter, reformYear, hasEaster}
+use Rattle.calendar.specs.Year.{named, leap, firstNewYear, newYear, YearOf, served}
+use Rattle.church.specs.Easter.{limit, march, easter, key, reformYear, hasEaster}
 use Rattle.church.specs.Feast.{+_, daysFrom}
 use Rattle.calendar.specs.declared.refusal.Refusal.{Refusal}
 use Rattle.calendar.specs.declared.span.DayAnswer.the-variants.{Day, NoDay}
@@ -36,6 +37,9 @@ has-easter s y r n = rw (r, n)
 pub easter-served : (s : Style) (y : ℕ) → hasEaster s y ≡ true → served s y ≡ true
 unfolding hasEaster
 easter-served s y h = and-eq-true-iff (served s y) (not (reformYear s y)) .0 h .0
+
+pub has-year : (s : Style) (y : ℕ) → hasEaster s y ≡ true → 1 ≤ y
+has-year s y h = served-small s y (easter-served s y h) .0
 
 abbrev pub firstEaster : Style → ℕ
 firstEaster Julian = 1
@@ -62,18 +66,10 @@ first-in-span Julian = omega (arith, span-start Julian)
 first-in-span Gregorian = omega (arith, span-start Gregorian, year-up Gregorian 1582 (omega arith))
 
 -- so every day of a year that has an Easter lies in the span
-pub year-in-span : (s : Style) (y n : ℕ) → hasEaster s y ≡ true → newYear s y ≤ n → n < newYear s (suc y) → inSpan s n ≡ true
-year-in-span s y n h from to =
+pub year-in-span : (s : Style) (y n : ℕ) → hasEaster s y ≡ true → YearOf s n y → inSpan s n ≡ true
+year-in-span s y n h i =
     let e = easter-years s y .0 h in
-    in-span-from s (firstEaster s) y 0 n (e .0) (e .1) (first-in-span s) (omega arith) to
-
-at-least : (b : Bool) → 365 ≤ cond b 366 365
-at-least true = omega arith
-at-least false = omega arith
-
-pub year-long : (s : Style) (y : ℕ) → hasEaster s y ≡ true → newYear s y + 365 ≤ newYear s (suc y)
-year-long s y h =
-    omega (arith, at-least (leap s y), year-up s y (served-small s y (easter-served s y h) .0))
+    in-span-from s (firstEaster s) y 0 n (e .0) (e .1) (first-in-span s) (omega (arith, i)) (i .to)
 
 -- 21 March is the day 79 of a common year, the first being 0
 pub march-21 : (b : Bool) → daysOfMonths b 2 ≡ 59 + cond b 1 0
@@ -81,18 +77,28 @@ unfolding daysOfMonths
 march-21 true = refl
 march-21 false = refl
 
-bit : (b : Bool) → cond b 1 0 ≤ 1
-bit true = omega arith
-bit false = omega arith
+one-more : (b : Bool) → (cond b 366 365 ≡ 365 + cond b 1 0) × (cond b 1 0 ≤ 1)
+one-more true = omega arith
+one-more false = omega arith
 
--- and so does every day on which a feast hung on Easter can fall
-pub near-easter : (s : Style) (y n : ℕ) → hasEaster s y ≡ true → march s y 21 ≤ n + 62 → n ≤ march s y 21 + 95 → inSpan s n ≡ true
+-- every day on which a feast hung on Easter can fall lies in the year
+near-in-year : (s : Style) (y n : ℕ) → 1 ≤ y → march s y 21 ≤ n + 62 → n ≤ march s y 21 + 95 → YearOf s n y
 unfolding march dayNumber
-near-easter s y n h from to =
+near-in-year s y n one from to =
     let m = march-21 (leap s y) in
-    let one = bit (leap s y) in
-    let l = year-long s y h in
-    year-in-span s y n h (omega arith) (omega arith)
+    let up = year-up s y one in
+    let more = one-more (leap s y) in
+    record { one = one; from = omega arith; to = omega arith }
+
+near-easter : (s : Style) (y n : ℕ) → hasEaster s y ≡ true → march s y 21 ≤ n + 62 → n ≤ march s y 21 + 95 → inSpan s n ≡ true
+near-easter s y n h from to = year-in-span s y n h (near-in-year s y n (has-year s y h) from to)
+
+-- 21 March in closed form, counted back from the next new year, so that it does not hang on whether the year is leap
+pub equinox-closed : (s : Style) (y : ℕ) → 1 ≤ y → march s y 21 ≡ firstNewYear s + closed s y - 286
+unfolding march dayNumber
+equinox-closed s y h =
+    let next = rw add-one at (new-year-closed s y) in
+    omega (arith, next, year-up s y h, march-21 (leap s y), one-more (leap s y))
 
 -- 21 March is answered exactly where Easter is: in 1582 of G it lies before the span
 not-reform : (s : Style) (y : ℕ) → inSpan s (march s y 21) ≡ true → reformYear s y ≡ false
@@ -100,7 +106,7 @@ unfolding march dayNumber
 not-reform Julian y i = refl
 not-reform Gregorian y i =
     let m = march-21 (leap Gregorian y) in
-    let one = bit (leap Gregorian y) in
+    let more = one-more (leap Gregorian y) in
     let r = span-range Gregorian (march Gregorian y 21) i in
     ne-eqb y 1582 (λ e. omega (arith, span-start Gregorian, ap (newYear Gregorian) e))
 
@@ -145,15 +151,27 @@ pub record EasterFacts (s : Style) (y : ℕ) : Type 0 where
   pub falls : weekday (easter s y) ≡ sunday
   pub key-low : march s y 21 + 1 ≤ easter s y
   pub key-high : easter s y ≤ march s y 21 + 35
+  pub by-key : march s y 21 + key s y ≡ easter s y
 
 pub easter-facts : (s : Style) (y : ℕ) → EasterFacts s y
-unfolding easter
+unfolding easter key
 easter-facts s y =
     let l = march s y (limit s y) in
     let f = is-later Uncounted sunday l (omega arith) (omega arith) in
     let r = limit-range s y in
     let m = march-from s y (limit s y) (r .0) in
-    record { later = omega arith; week = omega arith; falls = f .2; key-low = omega arith; key-high = omega arith }
+    record { later = omega arith; week = omega arith; falls = f .2; key-low = omega arith; key-high = omega arith; by-key = omega arith }
+
+-- the key as the limit and the weekday of 21 March tell it
+abbrev pub keyBy : ℕ → ℕ → ℕ
+keyBy l w = l - 14 - (w + l) % 7
+
+pub key-closed : (s : Style) (y : ℕ) → key s y ≡ keyBy (limit s y) (weekday (march s y 21))
+key-closed s y =
+    let f = easter-facts s y in
+    let r = limit-range s y in
+    let m = march-from s y (limit s y) (r .0) in
+    omega arith
 
 -- days from 63 before Easter to 60 after it
 abbrev pub near : ℤ → Bool
@@ -164,16 +182,16 @@ pub near-days : (z : ℤ) (n : ℕ) → T (near z) → (n ≤ daysFrom z n + 63)
 near-days (pos k) n h = omega (arith, leb→le k 60 h)
 near-days (negsuc k) n h = omega (arith, leb→le k 62 h)
 
--- lie in the span
-pub hung-in-span : (s : Style) (y : ℕ) (z : ℤ) → hasEaster s y ≡ true → T (near z) → inSpan s (daysFrom z (easter s y)) ≡ true
-hung-in-span s y z h small =
+-- lie in the year
+pub hung-in-year : (s : Style) (y : ℕ) (z : ℤ) → 1 ≤ y → T (near z) → YearOf s (daysFrom z (easter s y)) y
+hung-in-year s y z one small =
     let f = easter-facts s y in
     let d = near-days z (easter s y) small in
-    near-easter s y (daysFrom z (easter s y)) h (omega (arith, f .key-low)) (omega (arith, f .key-high))
+    near-in-year s y (daysFrom z (easter s y)) one (omega (arith, f .key-low)) (omega (arith, f .key-high))
 
 -- In a year that has a sheet Easter lies in the span.
 pub easter-in-span : (s : Style) (y : ℕ) → hasEaster s y ≡ true → inSpan s (easter s y) ≡ true
-easter-in-span s y h = rw add-zero at (hung-in-span s y (+ 0) h tt)
+easter-in-span s y h = year-in-span s y (easter s y) h (rw add-zero at (hung-in-year s y (+ 0) (has-year s y h) tt))
 
 pub easter-small : (s : Style) (y : ℕ) → hasEaster s y ≡ true → (earliest ≤ easter s y) × (easter s y ≤ latest)
 easter-small s y h = span-small s (easter s y) (easter-in-span s y h)

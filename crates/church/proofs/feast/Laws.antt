@@ -7,7 +7,7 @@ use native.Mathlib.Omega.{arith}
 use lib.Dec.{T, leb, eqb, leb→le, eqb→eq}
 use lib.IntN.{ℤ, pos, negsuc}
 use lib.ListN.{getD}
-use Rattle.calendar.proofs.Each.{each, below, of-both, T-both, is-true}
+use Rattle.calendar.proofs.Each.{each, below, from-1, of-both, T-both, is-true}
 use Rattle.calendar.proofs.date.Dates.{date-bounds, year-of}
 use Rattle.calendar.proofs.date.Laws.{answered}
 use Rattle.calendar.proofs.range.Laws.{range}
@@ -18,8 +18,8 @@ use Rattle.calendar.specs.Range.{between}
 use Rattle.calendar.specs.Refusal.{_unless_, checked}
 use Rattle.calendar.specs.Span.{firstDay, inSpan, spanTests}
 use Rattle.calendar.specs.Weekday.{weekday, sunday}
-use Rattle.calendar.specs.Year.{named, leap, newYear, firstYear, served}
-use Rattle.church.proofs.easter.Laws.{easter-served, year-in-span, year-long, near, hung-in-span}
+use Rattle.calendar.specs.Year.{named, leap, newYear, YearOf, firstYear, served}
+use Rattle.church.proofs.easter.Laws.{easter-served, has-year, year-in-span, near, hung-in-year}
 use Rattle.church.specs.Easter.{easter, hasEaster}
 use Rattle.church.specs.Feast.{Rule, hung, on, onOrInLeapYears, advent, rule, adventSunday, daysFrom, servedFor, dateExists}
 use Rattle.church.specs.Feast.{ruleNumber, ruleDay, feastInYear}
@@ -57,7 +57,7 @@ hung-tested i h = below (λ i. hung-as (rule (i + 1)) (getD fromEaster i 0)) 23 
 abbrev pub hungDay : NamedYear → ℕ → DayAnswer
 hungDay t n = checked NoDay (Day n) (Year unless hasEaster (t .style) (t .year) ∷ spanTests (t .style) n)
 
-from-63 : (z : ℤ) (n : ℕ) → T (near z) → daysFrom z n ≡ n + daysFrom z 63 - 63
+pub from-63 : (z : ℤ) (n : ℕ) → T (near z) → daysFrom z n ≡ n + daysFrom z 63 - 63
 from-63 (pos k) n h = omega arith
 from-63 (negsuc k) n h = omega (arith, leb→le k 62 h)
 
@@ -82,7 +82,7 @@ unfolding small-test
 from-easter-small i h = leb→le _ _ (below small-test 23 tt i h)
 
 -- what is said of the one of two dates that counts is said of its month and day
-of-date : {A : Type 0} (f : ℕ → ℕ → A) (b : Bool) (d m d′ m′ : ℕ) → cond b (f m′ d′) (f m d) ≡ f (cond b m′ m) (cond b d′ d)
+pub of-date : {A : Type 0} (f : ℕ → ℕ → A) (b : Bool) (d m d′ m′ : ℕ) → cond b (f m′ d′) (f m d) ≡ f (cond b m′ m) (cond b d′ d)
 of-date f true d m d′ m′ = refl
 of-date f false d m d′ m′ = refl
 
@@ -136,6 +136,10 @@ pub in-table : (t : NamedYear) (f : ℕ) → between 1 f 48 ≡ true → feastIn
 unfolding feastInYear
 in-table t f e = rw e
 
+-- a date lies in its year
+dated-in-year : (s : Style) (y m d : ℕ) → 1 ≤ y → isDate s y m d ≡ true → YearOf s (dayNumber s y m d) y
+dated-in-year s y m d one e = year-of s (dayNumber s y m d) y m d (record { year = one; date = date-bounds s y m d e; number = refl })
+
 -- 27 November lies in the span in every served year
 november-27 : (s : Style) (y : ℕ) → newYear s y + 330 ≤ dayNumber s y 11 27
 unfolding dayNumber daysOfMonths
@@ -153,8 +157,7 @@ november-in-span : (s : Style) (y : ℕ) → served s y ≡ true → inSpan s (d
 unfolding isDate between
 november-in-span s y r =
     let e = served-range s y r in
-    let one = served-small s y r .0 in
-    let in-year = year-of s (dayNumber s y 11 27) y 11 27 (record { year = one; date = date-bounds s y 11 27 refl; number = refl }) in
+    let in-year = dated-in-year s y 11 27 (served-small s y r .0) refl in
     in-span-from s (firstYear s) y 330 (dayNumber s y 11 27) (e .0) (e .1) (first-november s) (november-27 s y) (in-year .to)
 
 pub november-answer : (s : Style) (y : ℕ)
@@ -191,10 +194,7 @@ matthias-before-march s y = go (leap s y)
 
 -- a test that antt computes at each feast's number, and what it says at one of them
 of-number : (p : ℕ → Bool) → T (each (λ i. p (i + 1)) 48) → (f : ℕ) → between 1 f 48 ≡ true → T (p f)
-of-number p t f e =
-    let r = range 1 f 48 e in
-    let number : f - 1 + 1 ≡ f = omega arith in
-    rw number at (below (λ i. p (i + 1)) 48 t (f - 1) (omega arith))
+of-number p t f e = from-1 p 48 t f (range 1 f 48 e)
 
 -- a rule with a date of its own for leap years is Matthias's
 none-but-matthias : Rule → ℕ → Bool
@@ -208,13 +208,13 @@ unfolding none-but-matthias
 only-matthias f d m d′ m′ e k = eqb→eq f 27 (rw k at (of-number (λ f. none-but-matthias (rule f) f) tt f e))
 
 -- what the table's rules keep to: days near Easter, and dates that there are in a leap or in a common year
-good : Bool → Rule → Bool
+unfoldable pub good : Bool → Rule → Bool
 good b (hung z) = near z
 good b (on d m) = between 1 m 12 && between 1 d (monthLength b m)
 good b (onOrInLeapYears d m d′ m′) = between 1 (cond b m′ m) 12 && between 1 (cond b d′ d) (monthLength b (cond b m′ m))
 good b advent = true
 
-rule-good : (b : Bool) (f : ℕ) → between 1 f 48 ≡ true → T (good b (rule f))
+pub rule-good : (b : Bool) (f : ℕ) → between 1 f 48 ≡ true → T (good b (rule f))
 unfolding good between
 rule-good true f e = of-number (λ f. good true (rule f)) tt f e
 rule-good false f e = of-number (λ f. good false (rule f)) tt f e
@@ -230,44 +230,37 @@ date-exists advent s y g = refl
 pub feast-date-exists : (s : Style) (y f : ℕ) → between 1 f 48 ≡ true → dateExists (rule f) s y ≡ true
 feast-date-exists s y f e = date-exists (rule f) s y (rule-good (leap s y) f e)
 
-before-december : (b : Bool) → daysOfMonths b 11 ≤ 335
-unfolding daysOfMonths
-before-december true = omega arith
-before-december false = omega arith
-
--- advent lies in its year
-advent-in-year : (s : Style) (y : ℕ) → hasEaster s y ≡ true → inSpan s (adventSunday s y) ≡ true
-unfolding dayNumber
-advent-in-year s y h =
-    let w = advent-week s y in
-    let d = before-december (leap s y) in
-    year-in-span s y (adventSunday s y) h (omega arith) (omega (arith, year-long s y h))
-
--- in a year that has an Easter every rule is served, and its day lies in the span
+-- in a year that has an Easter every rule is served
 rule-served : (r : Rule) (s : Style) (y : ℕ) → hasEaster s y ≡ true → servedFor r s y ≡ true
 rule-served (hung z) s y h = h
 rule-served (on d m) s y h = easter-served s y h
 rule-served (onOrInLeapYears d m d′ m′) s y h = easter-served s y h
 rule-served advent s y h = easter-served s y h
 
-dated-in-span : (s : Style) (y m d : ℕ) → hasEaster s y ≡ true → isDate s y m d ≡ true → inSpan s (dayNumber s y m d) ≡ true
-dated-in-span s y m d h e =
-    let one = served-small s y (easter-served s y h) .0 in
-    let year = year-of s (dayNumber s y m d) y m d (record { year = one; date = date-bounds s y m d e; number = refl }) in
-    year-in-span s y (dayNumber s y m d) h (year .from) (year .to)
+-- a rule's day lies in its year
+advent-in-year : (s : Style) (y : ℕ) → 1 ≤ y → YearOf s (adventSunday s y) y
+unfolding isDate between
+advent-in-year s y one =
+    let w = advent-week s y in
+    record { one = one; from = omega (arith, w, dated-in-year s y 11 27 one refl); to = omega (arith, w, dated-in-year s y 12 3 one refl) }
 
-rule-in-span : (r : Rule) (s : Style) (y : ℕ) → hasEaster s y ≡ true → T (good (leap s y) r) → inSpan s (ruleNumber r s y) ≡ true
+rule-in-year : (r : Rule) (s : Style) (y : ℕ) → 1 ≤ y → T (good (leap s y) r) → YearOf s (ruleNumber r s y) y
 unfolding good isDate
-rule-in-span (hung z) s y h g = hung-in-span s y z h g
-rule-in-span (on d m) s y h g = dated-in-span s y m d h (date-exists (on d m) s y g)
-rule-in-span (onOrInLeapYears d m d′ m′) s y h g =
+rule-in-year (hung z) s y one g = hung-in-year s y z one g
+rule-in-year (on d m) s y one g = dated-in-year s y m d one (date-exists (on d m) s y g)
+rule-in-year (onOrInLeapYears d m d′ m′) s y one g =
     let l = leap s y in
-    rw (of-date (dayNumber s y) l d m d′ m′) (dated-in-span s y (cond l m′ m) (cond l d′ d) h (is-true _ g))
-rule-in-span advent s y h g = advent-in-year s y h
+    rw (of-date (dayNumber s y) l d m d′ m′) (dated-in-year s y (cond l m′ m) (cond l d′ d) one (is-true _ g))
+rule-in-year advent s y one g = advent-in-year s y one
+
+-- Every feast lies in its year.
+pub feast-in-year : (s : Style) (y f : ℕ) → 1 ≤ y → between 1 f 48 ≡ true → YearOf s (ruleNumber (rule f) s y) y
+feast-in-year s y f one e = rule-in-year (rule f) s y one (rule-good (leap s y) f e)
 
 pub feast-answered : (s : Style) (y f : ℕ) → hasEaster s y ≡ true → between 1 f 48 ≡ true
     → feastInYear (named s y) f ≡ Day (ruleNumber (rule f) s y)
 unfolding feastInYear
 feast-answered s y f h e =
-    let g = rule-good (leap s y) f e in
-    rw (e, rule-served (rule f) s y h, date-exists (rule f) s y g, rule-in-span (rule f) s y h g)
+    let day = ruleNumber (rule f) s y in
+    let in-span = year-in-span s y day h (feast-in-year s y f (has-year s y h) e) in
+    rw (e, rule-served (rule f) s y h, feast-date-exists s y f e, in-span)

@@ -1,0 +1,185 @@
+-- What the key, the limit and the calendar of a year hang on, and so after how many years they return.
+use mathlib.Core.Bool.{Bool, not, cond}
+use mathlib.Core.List.{[], _∷_}
+use mathlib.Core.Logic.{_↔_}
+use mathlib.Core.Path.{_≡_, refl, sym, _∙_, ap}
+use Prim.Native.Nat.{ℕ, _+_, _-_, _*_, _/_, _%_, _≤_, _∣_}
+use native.Mathlib.Nat.{dvd-of-mod-eq-zero, div-mul-cancel}
+use native.Mathlib.Omega.{arith}
+use lib.Dec.{T, eqb}
+use borrow.Author.Tests.{eq-eqb}
+use Rattle.calendar.proofs.Claims.{leap-years-return, weekdays-return}
+use Rattle.calendar.proofs.Table.{All, none, _also_}
+use Rattle.calendar.proofs.year.Laws.{closed}
+use Rattle.church.proofs.Primes.{prime}
+use Rattle.church.proofs.Returns.{multiple, least}
+use Rattle.church.proofs.arithmetic.Laws.{z, z-closed, epact-sum}
+use Rattle.church.proofs.easter.Laws.{easter-facts, march-21, keyBy, key-closed, equinox-closed}
+use Rattle.church.proofs.epact.Laws.{golden-range}
+use Rattle.church.proofs.feast.Laws.{from-63, of-date, good, rule-good, week-long, advent-week}
+use Rattle.church.proofs.letter.Laws as letter-laws
+use Rattle.calendar.specs.Date.{daysOfMonths, dayNumber}
+use Rattle.calendar.specs.Range.{between}
+use Rattle.calendar.specs.Return.{ReturnsAfter, DiffersAfter, sunCycle}
+use Rattle.calendar.specs.Search.{firstOf}
+use Rattle.calendar.specs.Weekday.{weekday}
+use Rattle.calendar.specs.Year.{leap, firstNewYear, newYear}
+use Rattle.church.specs.Column.{stands, luna}
+use Rattle.church.specs.Easter.{limit, march, easter, key}
+use Rattle.church.specs.Epact.{golden, hundreds, epact, arabic}
+use Rattle.church.specs.Feast.{Rule, hung, on, onOrInLeapYears, advent, rule, adventSunday, ruleNumber}
+use Rattle.church.specs.Letter.{Part, SundayLetter}
+use Rattle.church.specs.Period.{period, shorter, correction, SameLetters, SameFeasts, TablesReturn}
+use Rattle.calendar.specs.declared.style.Style.the-variants.{Julian, Gregorian}
+use Rattle.calendar.specs.declared.style.Style.{Style}
+
+-- the epact by the golden number and the correction of the hundreds
+epact-by : (s : Style) (y : ℕ) → epact s y ≡ (11 * golden y + 30 - correction s y) % 30
+unfolding epact
+epact-by Julian y = omega arith
+epact-by Gregorian y = rw (z-closed (hundreds y)) (epact-sum (golden y) (hundreds y) (golden-range y .0))
+
+same-arabic : (s : Style) (y y′ : ℕ) → golden y ≡ golden y′ → epact s y ≡ epact s y′ → arabic s y ≡ arabic s y′
+unfolding arabic
+same-arabic Julian y y′ g e = refl
+same-arabic Gregorian y y′ g e = rw (e, g)
+
+-- The limit hangs on the golden number and on the correction of the hundreds alone, and so do the epact and whether it is the Arabic 25.
+pub same-limit : (s : Style) (y y′ : ℕ) → golden y ≡ golden y′ → correction s y ≡ correction s y′
+    → (epact s y ≡ epact s y′) × (arabic s y ≡ arabic s y′) × (limit s y ≡ limit s y′)
+unfolding limit luna
+same-limit s y y′ g c =
+    let e : epact s y ≡ epact s y′ = rw (epact-by s y, epact-by s y′, g, c) in
+    let a = same-arabic s y y′ g e in
+    (e, a, rw (e, a))
+
+-- The key hangs on the limit and on the weekday of 21 March alone, in whatever styles.
+pub same-key : (s s′ : Style) (y y′ : ℕ) → limit s y ≡ limit s′ y′ → weekday (march s y 21) ≡ weekday (march s′ y′ 21) → key s y ≡ key s′ y′
+same-key s s′ y y′ l w = rw (key-closed s y, key-closed s′ y′, l, w)
+
+golden-returns : (s : Style) → ReturnsAfter (period s) golden
+unfolding golden
+golden-returns Julian y h = omega arith
+golden-returns Gregorian y h = omega arith
+
+-- in 57,000 centuries Z grows by 817 times 30
+z-grows : (c : ℕ) → z (c + 57000) ≡ z c + 30 * 817
+z-grows c =
+    let sun : (c + 57000) / 4 ≡ c / 4 + 14250 = omega arith in
+    let moon : (8 * (c + 57000) + 13) / 25 ≡ (8 * c + 13) / 25 + 18240 = omega arith in
+    rw (sun, moon) (omega arith)
+
+correction-returns : (s : Style) → ReturnsAfter (period s) (correction s)
+correction-returns Julian y h = refl
+correction-returns Gregorian y h =
+    let c = hundreds y in
+    let later : (y + 5700000) / 100 ≡ c + 57000 = omega arith in
+    rw (later, z-closed (c + 57000), z-closed c, z-grows c) (omega arith)
+
+-- the sun's cycle goes into the period
+sun-returns : {A : Type 0} (s : Style) (has : ℕ → A) → ReturnsAfter (sunCycle s) has → ReturnsAfter (period s) has
+sun-returns Julian has r = multiple has 28 19 r
+sun-returns Gregorian has r = multiple has 400 14250 r
+
+leap-returns : (s : Style) → ReturnsAfter (period s) (leap s)
+leap-returns s = sun-returns s (leap s) (leap-years-return s)
+
+equinox-returns : (s : Style) → ReturnsAfter (period s) (λ y. weekday (march s y 21))
+unfolding march
+equinox-returns s = sun-returns s (λ y. weekday (march s y 21)) (weekdays-return s 3 21)
+
+limit-returns : (s : Style) (y : ℕ) → 1 ≤ y
+    → let y′ = y + period s in
+    (epact s y′ ≡ epact s y) × (arabic s y′ ≡ arabic s y) × (limit s y′ ≡ limit s y)
+limit-returns s y h = same-limit s (y + period s) y (golden-returns s y h) (correction-returns s y h)
+
+pub keys-return : (s : Style) → ReturnsAfter (period s) (key s)
+keys-return s y h = same-key s s (y + period s) y (limit-returns s y h .2) (equinox-returns s y h)
+
+-- two years, of whatever styles, with one key that are both leap or both common have one calendar
+module _ (s s′ : Style) (y y′ : ℕ) (one-key : key s y ≡ key s′ y′) (both : leap s y ≡ leap s′ y′) where
+  same-equinox : march s y 21 % 7 ≡ march s′ y′ 21 % 7
+  same-equinox = omega (arith, easter-facts s y, easter-facts s′ y′)
+
+  letter-kept : (p : Part) (l : ℕ) → SundayLetter s y p l → SundayLetter s′ y′ p l
+  letter-kept p l h = rw (letter-laws.one-letter s y p l h, both, same-equinox) (letter-laws.sundays s′ y′ p)
+
+  same-date : (m d : ℕ) → dayNumber s y m d - newYear s y ≡ dayNumber s′ y′ m d - newYear s′ y′
+  unfolding dayNumber
+  same-date m d = rw both (omega arith)
+
+  same-in-leap-years : (d m d′ m′ : ℕ)
+      → cond (leap s y) (dayNumber s y m′ d′) (dayNumber s y m d) - newYear s y
+      ≡ cond (leap s′ y′) (dayNumber s′ y′ m′ d′) (dayNumber s′ y′ m d) - newYear s′ y′
+  same-in-leap-years d m d′ m′ =
+      rw (of-date (dayNumber s y) (leap s y) d m d′ m′, of-date (dayNumber s′ y′) (leap s′ y′) d m d′ m′, ← both)
+      (same-date (cond (leap s y) m′ m) (cond (leap s y) d′ d))
+
+  same-advent : adventSunday s y - newYear s y ≡ adventSunday s′ y′ - newYear s′ y′
+  unfolding march dayNumber
+  same-advent =
+      let spring = ap (λ b. daysOfMonths b 2) both in
+      let autumn = ap (λ b. daysOfMonths b 10) both in
+      omega (arith, same-equinox, advent-week s y, week-long s y, advent-week s′ y′, week-long s′ y′)
+
+  same-rule : (r : Rule) → T (good (leap s y) r) → ruleNumber r s y - newYear s y ≡ ruleNumber r s′ y′ - newYear s′ y′
+  unfolding good march dayNumber
+  same-rule (hung k) g =
+      let b = leap s y in
+      let from-new-year : newYear s y + daysOfMonths b 2 + 20 + key s y ≡ easter s y = easter-facts s y .by-key in
+      let from-new-year′ : newYear s′ y′ + daysOfMonths b 2 + 20 + key s y ≡ easter s′ y′ = rw (one-key, both) (easter-facts s′ y′ .by-key) in
+      rw (from-63 k (easter s y) g, from-63 k (easter s′ y′) g, ← from-new-year, ← from-new-year′) (omega (arith, march-21 b))
+  same-rule (on d m) g = same-date m d
+  same-rule (onOrInLeapYears d m d′ m′) g = same-in-leap-years d m d′ m′
+  same-rule advent g = same-advent
+
+  pub same-feasts : SameFeasts s s′ y y′
+  same-feasts f e = ap (λ (n : ℕ). n + 1) (same-rule (rule f) (rule-good (leap s y) f e))
+
+-- The letters and the feasts' days of the year hang on the key and on whether the year is leap alone, in whatever styles.
+pub same-letters : (s s′ : Style) (y y′ : ℕ) → key s y ≡ key s′ y′ → leap s y ≡ leap s′ y′ → SameLetters s s′ y y′
+same-letters s s′ y y′ k b p l = (letter-kept s s′ y y′ k b p l, letter-kept s′ s y′ y (sym k) (sym b) p l)
+
+pub tables-return : (s : Style) → TablesReturn s (period s)
+tables-return s =
+    record {
+      leap-years = leap-returns s;
+      golden-numbers = golden-returns s;
+      epacts = λ y h. limit-returns s y h .0;
+      arabics = λ y h. limit-returns s y h .1;
+      letters = λ y h. same-letters s s (y + period s) y (keys-return s y h) (leap-returns s y h);
+      limits = λ y h. limit-returns s y h .2;
+      keys = keys-return s;
+      feasts = λ y h. same-feasts s s (y + period s) y (keys-return s y h) (leap-returns s y h);
+    }
+
+-- the key of a year from 1 on as numbers tell it, with no year counted
+abbrev keyNumber : Style → ℕ → ℕ
+keyNumber s y = keyBy (limit s y) (weekday (firstNewYear s + closed s y - 286))
+
+key-number : (s : Style) (y : ℕ) → 1 ≤ y → key s y ≡ keyNumber s y
+key-number s y h = rw (← equinox-closed s y h) (key-closed s y)
+
+-- in the year 1 the key differs from that of k years later
+differs-test : Style → ℕ → Bool
+differs-test s k = not (eqb (keyNumber s (1 + k)) (keyNumber s 1))
+
+differs : (s : Style) (k : ℕ) → T (differs-test s k) → DiffersAfter k (key s)
+unfolding differs-test
+differs s k t =
+    (1, omega arith, λ e. rw (eq-eqb _ _ (sym (key-number s (1 + k) (omega arith)) ∙ e ∙ key-number s 1 (omega arith))) at t)
+
+pub keys-differ : (s : Style) → All (λ k. DiffersAfter k (key s)) (shorter s)
+unfolding differs-test limit luna epact arabic golden stands firstOf between
+keys-differ Julian = differs Julian 266 tt also differs Julian 76 tt also differs Julian 28 tt also none
+keys-differ Gregorian =
+    differs Gregorian 2850000 tt also differs Gregorian 1900000 tt also differs Gregorian 1140000 tt also differs Gregorian 300000 tt also none
+
+least-period : (s : Style) (k : ℕ) → ReturnsAfter k (key s) → period s ∣ k
+unfolding prime
+least-period Julian = least (key Julian) (2 ∷ 7 ∷ 19 ∷ []) 2 532 tt (dvd-of-mod-eq-zero 532 refl) (keys-return Julian) (keys-differ Julian)
+least-period Gregorian =
+    least (key Gregorian) (2 ∷ 3 ∷ 5 ∷ 19 ∷ []) 5 5700000 tt (dvd-of-mod-eq-zero 5700000 refl) (keys-return Gregorian) (keys-differ Gregorian)
+
+pub key-period : (s : Style) (k : ℕ) → ReturnsAfter k (key s) ↔ (period s ∣ k)
+key-period s k = (least-period s k, λ d. rw (div-mul-cancel (period s) d) at (multiple (key s) (period s) (k / period s) (keys-return s)))
