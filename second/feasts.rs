@@ -83,6 +83,18 @@ fn advent(style: Style, year: i128) -> i128 {
     sunday.expect("a week has a Sunday") - 21
 }
 
+/// The day number of a feast in any year from 1 on.
+pub fn unchecked_feast(style: Style, feast: i128, year: i128) -> i128 {
+    let place = feast as usize - 1;
+    if let Some((_, week, weekday)) = MOVING.get(place) {
+        return easter(style, year) + 7 * week + weekday;
+    }
+    match FIXED.get(place - MOVING.len()) {
+        Some(&(_, month, day)) => unchecked_day(style, &Date { year, month, day }),
+        None => advent(style, year),
+    }
+}
+
 pub fn day_of_feast(number: i128, feast: i128, year: i128) -> Answer<i128> {
     let style = style(number)?;
     if !(1..=COUNT).contains(&feast) {
@@ -90,13 +102,9 @@ pub fn day_of_feast(number: i128, feast: i128, year: i128) -> Answer<i128> {
     }
     // A year is served where its Christmas has a day.
     day_of_date(number, &Date { year, month: 12, day: 25 })?;
-    let place = feast as usize - 1;
-    if let Some((_, week, weekday)) = MOVING.get(place) {
-        let unserved = style == Style::G && year == 1582;
-        return if unserved { Err(4) } else { in_span(style, easter(style, year) + 7 * week + weekday) };
+    let moving = feast as usize <= MOVING.len();
+    if moving && style == Style::G && year == 1582 {
+        return Err(4);
     }
-    match FIXED.get(place - MOVING.len()) {
-        Some(&(_, month, day)) => in_span(style, unchecked_day(style, &Date { year, month, day })),
-        None => in_span(style, advent(style, year)),
-    }
+    in_span(style, unchecked_feast(style, feast, year))
 }

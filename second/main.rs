@@ -10,6 +10,7 @@ mod marks;
 mod outside;
 mod page_cases;
 mod pages;
+mod periods;
 mod pieces;
 mod sheets;
 mod stored;

@@ -3,7 +3,8 @@
 //! days to the moon, in G with Oudin's correction of 1940 (as printed in the Explanatory Supplement to the Astronomical Almanac).
 //! The J epact is the moon's age on 22 March, Dionysius's epact, and eleven more. The G epacts are those of Lilius's cycle as
 //! Clavius tells it (Romani calendarii a Gregorio XIII restituti explicatio, 1603): the epact of golden number 1 was I in 1582, and
-//! the century years since then moved it by the sun's and the moon's equation. Letters are read off the Sundays.
+//! the century years since then moved it by the sun's and the moon's equation, as those before would have. Letters are read off the
+//! Sundays.
 
 use crate::days::{Answer, Date, Style, style, unchecked_day, weekday};
 use std::fmt;
@@ -15,8 +16,19 @@ pub struct Sheet {
     arabic: bool,
     letters: [char; 2],
     limit: i128,
-    key: i128,
+    pub key: i128,
     easter: i128,
+}
+
+impl Sheet {
+    /// Whether both hold the same, but for the days of their Easters.
+    pub fn alike(&self, other: &Sheet) -> bool {
+        let held = |sheet: &Sheet| {
+            let Sheet { leap, golden, epact, arabic, letters, limit, key, .. } = *sheet;
+            (leap, golden, epact, arabic, letters, limit, key)
+        };
+        held(self) == held(other)
+    }
 }
 
 impl fmt::Display for Sheet {
@@ -77,21 +89,22 @@ pub fn easter(style: Style, year: i128) -> i128 {
     day(style, year, sum / 31, sum % 31 + 1)
 }
 
+/// By how much a century year moves the epacts: the sun's equation leaves out three leap days of four, and the moon's, which came
+/// in 1800, comes seven times after 300 years and the eighth time after 400.
+fn equations(century: i128) -> i128 {
+    let moon = [0, 3, 6, 9, 12, 15, 18, 21].contains(&(century - 18).rem_euclid(25));
+    i128::from(moon) - i128::from(century % 4 != 0)
+}
+
+/// By how much the centuries from 1 on have moved them, which a hundred centuries do by as much as any other hundred.
+fn moved(century: i128) -> i128 {
+    let sum = |last| (1..=last).map(equations).sum::<i128>();
+    century / 100 * sum(100) + sum(century % 100)
+}
+
 /// The nineteen G epacts in use in the year, by golden number.
 fn cycle(year: i128) -> Vec<i128> {
-    let mut first = 1;
-    let (mut moon, mut gaps) = (18, 0);
-    for century in 16..=year / 100 {
-        if century % 4 != 0 {
-            first -= 1;
-        }
-        // The moon's equation comes seven times after 300 years, and the eighth time after 400.
-        if century == moon {
-            first += 1;
-            gaps += 1;
-            moon += if gaps % 8 == 0 { 4 } else { 3 };
-        }
-    }
+    let first = 1 + moved(year / 100) - moved(15);
     (0..19).map(|years: i128| (first + 11 * years).rem_euclid(30)).collect()
 }
 
@@ -116,15 +129,11 @@ fn letter_from(first_day: i128, letter: usize) -> char {
     b"ABCDEFG"[(letter + sunday as usize) % 7] as char
 }
 
-pub fn sheet_of_year(number: i128, year: i128) -> Answer<Sheet> {
-    let style = style(number)?;
-    let first = if style == Style::J { 1 } else { 1583 };
-    if !(first..=9999).contains(&year) {
-        return Err(4);
-    }
+/// The sheet of any year from 1 on.
+pub fn sheet(style: Style, year: i128) -> Sheet {
     let (epact, arabic) = epact(style, year);
     let (easter, march) = (easter(style, year), day(style, year, 3, 1));
-    Ok(Sheet {
+    Sheet {
         leap: march - day(style, year, 2, 28) == 2,
         golden: golden(year),
         epact,
@@ -133,5 +142,11 @@ pub fn sheet_of_year(number: i128, year: i128) -> Answer<Sheet> {
         limit: limit(style, year),
         key: easter - day(style, year, 3, 21),
         easter,
-    })
+    }
+}
+
+pub fn sheet_of_year(number: i128, year: i128) -> Answer<Sheet> {
+    let style = style(number)?;
+    let first = if style == Style::J { 1 } else { 1583 };
+    if (first..=9999).contains(&year) { Ok(sheet(style, year)) } else { Err(4) }
 }
