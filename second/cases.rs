@@ -3,7 +3,6 @@
 use crate::days::{Answer, Date, date_of_day, day_of_date, distance_of_dates, style, weekday_of_day};
 use crate::feasts::{COUNT, day_of_feast};
 use crate::lines::STYLES;
-use crate::periods::period;
 use crate::sheets::sheet_of_year;
 use std::io::BufRead;
 use std::process::ExitCode;
@@ -82,7 +81,6 @@ fn known(call: &str) -> Option<String> {
         ("feast", &[s, f, y]) => Some(feast(s, f, y)),
         ("sheet", &[s, y]) => Some(sheet(s, y)),
         ("year", &[s, y]) => Some(year(s, y)),
-        ("period", &[s, p, f, c, t]) => Some(one(style(s), |style| period(style, p, f, c, t))),
         ("write", &[s, n, l]) if l <= LENT => Some(write(s, n, l)),
         ("distance", &[s, y, m, d, t, z, n, e]) => {
             Some(two(distance_of_dates(s, &date(y, m, d), t, &date(z, n, e))))

@@ -26,6 +26,7 @@ usage: second cases < LINES             compares lines 'CALL NUMBERS: ANSWER' wi
        second years                     prints the call 'year STYLE YEAR' for every year
        second survey < LINES            compares the lines of all those calls
        second outside FILE.. < LINES    compares lines of such calls with printed tables
+       second periods                   prints in how many years all, and the key, returns so many years later
        second lines < LINES             prints 'NUMBER START LENGTH' for each dating line
        second run < LINES               prints for each dating line what the program datelines must print
        second corpus                    prints dating lines, good and bad
@@ -45,6 +46,7 @@ fn main() -> ExitCode {
         ["years"] => years::print(),
         ["survey"] => years::compare(lines),
         ["outside", ref files @ ..] if !files.is_empty() => outside::compare(files, lines),
+        ["periods"] => periods::print(),
         ["lines"] => lines::answer(lines),
         ["run"] => lines::run(lines),
         ["corpus"] => corpus::print(),

@@ -8,6 +8,7 @@
 
 use crate::days::{Answer, Date, Style, style, unchecked_day, weekday};
 use std::fmt;
+use std::sync::OnceLock;
 
 pub struct Sheet {
     leap: bool,
@@ -21,10 +22,10 @@ pub struct Sheet {
 }
 
 impl Sheet {
-    /// Whether both hold the same, but for the days of their Easters.
+    /// Whether both hold the same, but for Easter's day number.
     pub fn alike(&self, other: &Sheet) -> bool {
         let held = |sheet: &Sheet| {
-            let Sheet { leap, golden, epact, arabic, letters, limit, key, .. } = *sheet;
+            let Sheet { leap, golden, epact, arabic, letters, limit, key, easter: _ } = *sheet;
             (leap, golden, epact, arabic, letters, limit, key)
         };
         held(self) == held(other)
@@ -89,22 +90,35 @@ pub fn easter(style: Style, year: i128) -> i128 {
     day(style, year, sum / 31, sum % 31 + 1)
 }
 
-/// By how much a century year moves the epacts: the sun's equation leaves out three leap days of four, and the moon's, which came
-/// in 1800, comes seven times after 300 years and the eighth time after 400.
-fn equations(century: i128) -> i128 {
-    let moon = [0, 3, 6, 9, 12, 15, 18, 21].contains(&(century - 18).rem_euclid(25));
-    i128::from(moon) - i128::from(century % 4 != 0)
-}
+/// The last century whose epacts are told.
+const LAST_CENTURY: usize = 120_000;
 
-/// By how much the centuries from 1 on have moved them, which a hundred centuries do by as much as any other hundred.
-fn moved(century: i128) -> i128 {
-    let sum = |last| (1..=last).map(equations).sum::<i128>();
-    century / 100 * sum(100) + sum(century % 100)
+/// By how much the epacts of each century lie above those of century 0, before the remainder by 30.
+fn moved() -> Vec<i128> {
+    let mut moved = vec![0];
+    // The moon's equation comes seven times after 300 years and the eighth time after 400; reckoned back from 1800, first in 200.
+    let (mut moon, mut gaps) = (2, 3);
+    for century in 1..=LAST_CENTURY {
+        let mut epact = moved[century - 1];
+        // The sun's equation goes with the three leap days of four that are left out.
+        if century % 4 != 0 {
+            epact -= 1;
+        }
+        if century == moon {
+            epact += 1;
+            gaps += 1;
+            moon += if gaps % 8 == 0 { 4 } else { 3 };
+        }
+        moved.push(epact);
+    }
+    moved
 }
 
 /// The nineteen G epacts in use in the year, by golden number.
 fn cycle(year: i128) -> Vec<i128> {
-    let first = 1 + moved(year / 100) - moved(15);
+    static MOVED: OnceLock<Vec<i128>> = OnceLock::new();
+    let moved = MOVED.get_or_init(moved);
+    let first = 1 + moved[year as usize / 100] - moved[15];
     (0..19).map(|years: i128| (first + 11 * years).rem_euclid(30)).collect()
 }
 

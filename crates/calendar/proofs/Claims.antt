@@ -1,4 +1,4 @@
--- What holds of the public calls beyond their contracts, as a user makes them: by a style's number.
+-- What holds beyond the contracts; of the public calls as a user makes them, by a style's number.
 use mathlib.Core.Bool.{Bool, true, false, cond}
 use mathlib.Core.List.{[], _∷_}
 use mathlib.Core.Logic.{_↔_, _⊎_, inl, inr}
@@ -20,7 +20,7 @@ use Rattle.calendar.specs.Date.{IsDateOf, IsDateOfDay, dateRefusal, date
 use Rattle.calendar.specs.Distance.{distanceOfDays}
 use Rattle.calendar.specs.Range.{between}
 use Rattle.calendar.specs.Refusal.{Holds, Lowest}
-use Rattle.calendar.specs.Return.{ReturnsAfter, sunCycle}
+use Rattle.calendar.specs.Return.{ReturnsAfter, weekdayPeriod}
 use Rattle.calendar.specs.Span.{firstDay, lastDay, earliest, inSpan, spanTests, dayOrRefusal}
 use Rattle.calendar.specs.Style.{styleNumber, styleBy, styleOf, styleRefusal, styleOrZero, byNumber}
 use Rattle.calendar.specs.Weekday.{weekday, weekdayOfDay, weekdayRefusal, firstWeekday, leastAway}
@@ -199,9 +199,9 @@ before-differ w n low high late =
     (λ e. (omega arith, omega arith), λ other. omega arith)
 
 -- After 28 years in J, and after 400 in G, the same years are leap, and each date falls on the same weekday.
-pub leap-years-return : (s : Style) → ReturnsAfter (sunCycle s) (leap s)
+pub leap-years-return : (s : Style) → ReturnsAfter (weekdayPeriod s) (leap s)
 leap-years-return = leap-returns
 
-pub weekdays-return : (s : Style) (m d : ℕ) → ReturnsAfter (sunCycle s) (λ y. weekday (dayNumber s y m d))
+pub weekdays-return : (s : Style) (m d : ℕ) → ReturnsAfter (weekdayPeriod s) (λ y. weekday (dayNumber s y m d))
 unfolding dayNumber
 weekdays-return s m d y h = rw (leap-returns s y h, new-year-returns s y h) (omega arith)

@@ -4,8 +4,8 @@ use Prim.Native.Nat.{ℕ, _+_, _≤_}
 use Rattle.calendar.specs.declared.style.Style.the-variants.{Julian, Gregorian}
 use Rattle.calendar.specs.declared.style.Style.{Style}
 
--- what each year has returns after k years: every year from 1 on has what the year k years later has
 module _ {A : Type 0} where
+  -- what each year has returns after k years: every year from 1 on has what the year k years later has
   abbrev pub ReturnsAfter : ℕ → (ℕ → A) → Type 0
   ReturnsAfter k has = (y : ℕ) → 1 ≤ y → has (y + k) ≡ has y
 
@@ -13,7 +13,7 @@ module _ {A : Type 0} where
   abbrev pub DiffersAfter : ℕ → (ℕ → A) → Type 0
   DiffersAfter k has = (y : ℕ) × (1 ≤ y) × (has (y + k) ≡ has y → ⊥)
 
--- the years after which leap years and the weekdays of dates return; source document 000 has them of the Sunday letters: 28 years in J, 4 centuries in G
-abbrev pub sunCycle : Style → ℕ
-sunCycle Julian = 28
-sunCycle Gregorian = 400
+-- the years after which leap years and the weekdays of dates return; source document 000 gives them for the Sunday letters, 28 years and 4 centuries
+abbrev pub weekdayPeriod : Style → ℕ
+weekdayPeriod Julian = 28
+weekdayPeriod Gregorian = 400

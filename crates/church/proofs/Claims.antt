@@ -14,19 +14,19 @@ use Rattle.church.proofs.arithmetic.Laws as arithmetic-laws
 pub use Rattle.church.proofs.arithmetic.Laws.{brought-by-thirties}
 use Rattle.church.proofs.column.Laws.{walked}
 use Rattle.church.proofs.easter.Laws as easter-laws
-pub use Rattle.church.proofs.easter.Laws.{firstEaster, easter-years, limit-range, equinox-closed, easter-in-span}
+pub use Rattle.church.proofs.easter.Laws.{firstEaster, easter-years, limit-range, equinox-weekday, keyBy, key-closed, easter-in-span}
 use Rattle.church.proofs.epact.Laws as epact-laws
 pub use Rattle.church.proofs.epact.Laws.{epact-small}
 use Rattle.church.proofs.feast.Laws as feast-laws
 pub use Rattle.church.proofs.feast.Laws.{feast-date-exists, feast-in-year, matthias-before-march, only-matthias}
 use Rattle.church.proofs.letter.Laws as letter-laws
 use Rattle.church.proofs.period.Laws as period-laws
-pub use Rattle.church.proofs.period.Laws.{same-key, same-limit, same-letters, same-feasts}
+pub use Rattle.church.proofs.period.Laws.{epact-closed, same-limit, same-key, same-letters, same-feasts}
 pub use Rattle.church.proofs.sheet.Laws.{one-answer-in-year}
 use Rattle.calendar.specs.Date.{isDate, dayNumber}
 use Rattle.calendar.specs.Range.{between}
 use Rattle.calendar.specs.Refusal.{Holds, Lowest}
-use Rattle.calendar.specs.Return.{ReturnsAfter, DiffersAfter}
+use Rattle.calendar.specs.Return.{ReturnsAfter, DiffersAfter, weekdayPeriod}
 use Rattle.calendar.specs.Span.{earliest, dayOrRefusal}
 use Rattle.calendar.specs.Style.{styleNumber, styleOf, byNumber}
 use Rattle.calendar.specs.Weekday.{weekday, sunday}
@@ -37,7 +37,7 @@ use Rattle.church.specs.Easter.{limit, march, easter, key, hasEaster, ea
 use Rattle.church.specs.Epact.{golden, hundreds, gregorianSum, epact, arabic}
 use Rattle.church.specs.Feast.{_is_, onOrInLeapYears, feasts, feastOf, rule, adventSunday, ruleNumber, feastTests, feastInYear, feastOfYear}
 use Rattle.church.specs.Letter.{letterOf, Part, first, second, inPart, SundayLetter}
-use Rattle.church.specs.Period.{period, shorter, TablesReturn}
+use Rattle.church.specs.Period.{period, shorter, SameLetters, TablesReturn}
 use Rattle.church.specs.Sheet.{IsSheetOf, IsSheetOfYear, sheetRefusal, yes, sheetNumbers}
 use Rattle.calendar.specs.declared.span.DayAnswer.the-variants.{Day, NoDay}
 use Rattle.calendar.specs.declared.style.Style.the-variants.{Gregorian}
@@ -168,9 +168,15 @@ one-advent s y n from to falls =
     let w = feast-laws.week-long s y in
     omega arith
 
--- What the tables hang on: the key on the limit and the weekday of 21 March alone (`same-key`); the limit on the golden number and, in G, on the hundreds by
--- their correction alone (`same-limit`); 21 March, and so its weekday, on the year by a closed form (`equinox-closed`); the letters and the feasts' days of the year
--- on the key and on whether the year is leap alone (`same-letters`, `same-feasts`). Every feast lies in its year (`feast-in-year`).
+-- What the tables depend on, of two years that may be of two styles: the key on the limit and on the weekday of 21 March alone (`key-closed`, `same-key`), the
+-- Sunday letters on that weekday and on whether the year is leap (`same-letters`), the feasts' days of the year on that and on the key (`same-feasts`); the
+-- weekday on the year by its closed form (`equinox-weekday`); and in a style the epact, whether it is the Arabic 25 and the limit on the golden number and, in
+-- G, on the hundreds by their correction (`epact-closed`, `same-limit`). Every feast lies in its year, which its day of the year is counted in (`feast-in-year`).
+
+-- The Sunday letters return after 28 years in J and after 400 in G.
+pub letters-return : (s : Style) (y : ℕ) → 1 ≤ y → SameLetters s s (y + weekdayPeriod s) y
+letters-return = period-laws.letters-return
+
 -- J keys return after 532 years, and G keys after 5,700,000.
 pub keys-return : (s : Style) → ReturnsAfter (period s) (key s)
 keys-return = period-laws.keys-return
@@ -183,6 +189,6 @@ tables-return = period-laws.tables-return
 pub keys-differ : (s : Style) → All (λ k. DiffersAfter k (key s)) (shorter s)
 keys-differ = period-laws.keys-differ
 
--- The period is the least: the keys return after k years throughout exactly where it divides k.
+-- Of the numbers from 1 on the period is the least: the keys return after k years throughout exactly where it divides k.
 pub key-period : (s : Style) (k : ℕ) → ReturnsAfter k (key s) ↔ (period s ∣ k)
 key-period = period-laws.key-period

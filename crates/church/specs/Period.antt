@@ -1,9 +1,9 @@
 -- How far the tables repeat, for all years from 1 on.
+use mathlib.Core.Bool.{true}
 use mathlib.Core.List.{List, [], _∷_}
 use mathlib.Core.Logic.{_↔_}
 use mathlib.Core.Path.{_≡_}
-use mathlib.Core.Bool.{true}
-use Prim.Native.Nat.{ℕ, _+_, _-_, _≤_}
+use Prim.Native.Nat.{ℕ, _+_, _-_, _/_, _%_, _≤_}
 use Rattle.calendar.specs.Range.{between}
 use Rattle.calendar.specs.Return.{ReturnsAfter}
 use Rattle.calendar.specs.Year.{leap, newYear}
@@ -20,29 +20,34 @@ abbrev pub period : Style → ℕ
 period Julian = 532
 period Gregorian = 5700000
 
--- the period by each prime number that divides it: 2, 7 and 19, and 2, 3, 5 and 19
+-- the period divided by each of its primes: by 2, 7 and 19 in J, by 2, 3, 5 and 19 in G
 abbrev pub shorter : Style → List ℕ
 shorter Julian = 266 ∷ 76 ∷ 28 ∷ []
 shorter Gregorian = 2850000 ∷ 1900000 ∷ 1140000 ∷ 300000 ∷ []
 
--- what the hundreds correct an epact by, Z by thirties; in J nothing
+-- what is taken for the hundreds from 11 times the golden number, by 30: Z in G, and nothing in J
 abbrev pub correction : Style → ℕ → ℕ
 correction Julian y = 0
 correction Gregorian y = by30 (zOf (hundreds y))
 
--- the day of the year on which the feast with the number f is kept, 1 January being the first
-abbrev pub feastPlace : ℕ → Style → ℕ → ℕ
-feastPlace f s y = ruleNumber (rule f) s y - newYear s y + 1
+-- the weekday of 21 March in closed form
+abbrev pub equinoxWeekday : Style → ℕ → ℕ
+equinoxWeekday Julian y = (y + y / 4 + 6) % 7 + 1
+equinoxWeekday Gregorian y = (y + y / 4 + y / 400 - y / 100 + 1) % 7 + 1
 
--- one year's Sunday letters are those of another
+-- the day of the year on which the feast with the number f is kept, 1 January being the first
+abbrev pub feastDayOfYear : ℕ → Style → ℕ → ℕ
+feastDayOfYear f s y = ruleNumber (rule f) s y - newYear s y + 1
+
+-- the year y of the style s and the year y′ of the style s′ have the same Sunday letters
 abbrev pub SameLetters : Style → Style → ℕ → ℕ → Type 0
 SameLetters s s′ y y′ = (p : Part) (l : ℕ) → SundayLetter s y p l ↔ SundayLetter s′ y′ p l
 
--- one year's feasts are kept on the days of the year on which those of another are
+-- they keep every feast on the same day of the year
 abbrev pub SameFeasts : Style → Style → ℕ → ℕ → Type 0
-SameFeasts s s′ y y′ = (f : ℕ) → between 1 f 48 ≡ true → feastPlace f s y ≡ feastPlace f s′ y′
+SameFeasts s s′ y y′ = (f : ℕ) → between 1 f 48 ≡ true → feastDayOfYear f s y ≡ feastDayOfYear f s′ y′
 
--- what a sheet holds, and the feasts, all return after k years
+-- what a sheet holds, but for Easter's day number, and every feast's day of the year return after k years
 pub record TablesReturn (s : Style) (k : ℕ) : Type 0 where
   pub leap-years : ReturnsAfter k (leap s)
   pub golden-numbers : ReturnsAfter k golden

@@ -7,7 +7,7 @@ use native.Mathlib.Numerals.{add-one}
 use native.Mathlib.Omega.{arith}
 use borrow.Author.Tests.{eqb-true, eqb-false}
 use Rattle.calendar.proofs.Counting.{rises, not-after, one-place}
-use Rattle.calendar.specs.Return.{ReturnsAfter, sunCycle}
+use Rattle.calendar.specs.Return.{ReturnsAfter, weekdayPeriod}
 use Rattle.calendar.specs.Year.{divides, leap, yearLength, daysOfYears, firstNewYear, newYear, YearOf}
 use Rattle.calendar.specs.declared.style.Style.the-variants.{Julian, Gregorian}
 use Rattle.calendar.specs.declared.style.Style.{Style}
@@ -22,7 +22,7 @@ remainder-returns y k d h =
     let whole : k ≡ k / d * d = omega (arith, div-add-mod' k d) in
     ap (λ (n : ℕ). (y + n) % d) whole ∙ add-mul-mod-self-right y (k / d) d
 
-pub leap-returns : (s : Style) → ReturnsAfter (sunCycle s) (leap s)
+pub leap-returns : (s : Style) → ReturnsAfter (weekdayPeriod s) (leap s)
 leap-returns Julian y h = simp remainder-returns
 leap-returns Gregorian y h = simp remainder-returns
 
@@ -155,19 +155,19 @@ estimate-low s n y from to =
     let e : y + 2 ≡ y + 1 + 1 = omega arith in
     estimate-right s n (y + 1) (omega arith) from (rw e at to)
 
--- the sun's cycle has whole weeks
-abbrev pub cycleWeeks : Style → ℕ
-cycleWeeks Julian = 1461
-cycleWeeks Gregorian = 20871
+-- the weekdays' period has whole weeks
+abbrev pub periodWeeks : Style → ℕ
+periodWeeks Julian = 1461
+periodWeeks Gregorian = 20871
 
-closed-returns : (s : Style) (n : ℕ) → closed s (n + sunCycle s) ≡ closed s n + 7 * cycleWeeks s
+closed-returns : (s : Style) (n : ℕ) → closed s (n + weekdayPeriod s) ≡ closed s n + 7 * periodWeeks s
 closed-returns Julian n = omega arith
 closed-returns Gregorian n =
     let fours : (n + 400) / 4 ≡ n / 4 + 100 = omega arith in
     let centuries : (n + 400) / 100 ≡ n / 100 + 4 = omega arith in
     rw (fours, centuries) (omega (arith, choices-small Gregorian n))
 
-pub new-year-returns : (s : Style) (y : ℕ) → 1 ≤ y → newYear s (y + sunCycle s) ≡ newYear s y + 7 * cycleWeeks s
+pub new-year-returns : (s : Style) (y : ℕ) → 1 ≤ y → newYear s (y + weekdayPeriod s) ≡ newYear s y + 7 * periodWeeks s
 new-year-returns s y h =
-    let e : y + sunCycle s - 1 ≡ y - 1 + sunCycle s = omega arith in
-    rw (new-year-at s (y + sunCycle s) (omega arith), e, closed-returns s (y - 1), new-year-at s y h) (omega arith)
+    let e : y + weekdayPeriod s - 1 ≡ y - 1 + weekdayPeriod s = omega arith in
+    rw (new-year-at s (y + weekdayPeriod s) (omega arith), e, closed-returns s (y - 1), new-year-at s y h) (omega arith)

@@ -2,7 +2,7 @@
 use mathlib.Core.Bool.{Bool, true, false, _&&_, not, cond, and-eq-true-iff}
 use mathlib.Core.Logic.{_↔_}
 use mathlib.Core.Path.{_≡_, refl, sym, _∙_, ap}
-use Prim.Native.Nat.{ℕ, _+_, _-_, _%_, _≤_, _<_}
+use Prim.Native.Nat.{ℕ, _+_, _-_, _*_, _/_, _%_, _≤_, _<_}
 use native.Mathlib.Nat.{add-zero}
 use native.Mathlib.Numerals.{add-one}
 use native.Mathlib.Omega.{arith}
@@ -22,6 +22,7 @@ use Rattle.calendar.specs.Weekday.{weekday, sunday, firstWeekday}
 use Rattle.calendar.specs.Year.{named, leap, firstNewYear, newYear, YearOf, served}
 use Rattle.church.specs.Easter.{limit, march, easter, key, reformYear, hasEaster}
 use Rattle.church.specs.Feast.{+_, daysFrom}
+use Rattle.church.specs.Period.{equinoxWeekday}
 use Rattle.calendar.specs.declared.refusal.Refusal.{Refusal}
 use Rattle.calendar.specs.declared.span.DayAnswer.the-variants.{Day, NoDay}
 use Rattle.calendar.specs.declared.style.Style.the-variants.{Julian, Gregorian}
@@ -93,12 +94,22 @@ near-in-year s y n one from to =
 near-easter : (s : Style) (y n : ℕ) → hasEaster s y ≡ true → march s y 21 ≤ n + 62 → n ≤ march s y 21 + 95 → inSpan s n ≡ true
 near-easter s y n h from to = year-in-span s y n h (near-in-year s y n (has-year s y h) from to)
 
--- 21 March in closed form, counted back from the next new year, so that it does not hang on whether the year is leap
-pub equinox-closed : (s : Style) (y : ℕ) → 1 ≤ y → march s y 21 ≡ firstNewYear s + closed s y - 286
+-- 21 March lies so many days before the next new year, whether the year is leap or not
+equinox-back : (s : Style) (y : ℕ) → 1 ≤ y → march s y 21 + 286 ≡ firstNewYear s + closed s y
 unfolding march dayNumber
-equinox-closed s y h =
+equinox-back s y h =
     let next = rw add-one at (new-year-closed s y) in
     omega (arith, next, year-up s y h, march-21 (leap s y), one-more (leap s y))
+
+by-sevens : (n a b c d : ℕ) → c ≤ b → n + 286 ≡ 1721426 + (365 * a + b + d - c) → n % 7 ≡ (a + b + d - c + 1) % 7
+by-sevens n a b c d h e = omega arith
+
+-- The weekday of 21 March depends on the year by its closed form.
+pub equinox-weekday : (s : Style) (y : ℕ) → 1 ≤ y → weekday (march s y 21) ≡ equinoxWeekday s y
+equinox-weekday Julian y h = omega (arith, equinox-back Julian y h)
+equinox-weekday Gregorian y h =
+    let fourths : y / 100 / 4 ≡ y / 400 = omega arith in
+    ap (λ (n : ℕ). n + 1) (by-sevens (march Gregorian y 21) y (y / 4) (y / 100) (y / 400) (omega arith) (rw fourths at (equinox-back Gregorian y h)))
 
 -- 21 March is answered exactly where Easter is: in 1582 of G it lies before the span
 not-reform : (s : Style) (y : ℕ) → inSpan s (march s y 21) ≡ true → reformYear s y ≡ false
@@ -162,7 +173,7 @@ easter-facts s y =
     let m = march-from s y (limit s y) (r .0) in
     record { later = omega arith; week = omega arith; falls = f .2; key-low = omega arith; key-high = omega arith; by-key = omega arith }
 
--- the key as the limit and the weekday of 21 March tell it
+-- The key depends on the limit and on the weekday of 21 March alone.
 abbrev pub keyBy : ℕ → ℕ → ℕ
 keyBy l w = l - 14 - (w + l) % 7
 
