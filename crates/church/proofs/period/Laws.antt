@@ -169,26 +169,15 @@ key-number : (s : Style) (y : ℕ) → 1 ≤ y → key s y ≡ keyNumber s y
 unfolding keyNumber
 key-number s y h = rw (key-closed s y, equinox-weekday s y h)
 
--- the year 1 has the key a, and the year k years later another, b
-differs : (s : Style) (k a b : ℕ) → keyNumber s 1 ≡ a → keyNumber s (1 + k) ≡ b → T (not (eqb a b)) → DiffersAfter k (key s)
-differs s k a b first later other =
-    let same : key s (1 + k) ≡ key s 1 → a ≡ b =
-    λ e. sym (key-number s 1 (omega arith) ∙ first) ∙ sym e ∙ key-number s (1 + k) (omega arith) ∙ later in
-    (1, omega arith, λ e. rw (eq-eqb a b (same e)) at other)
+-- the year 1 has another key than the year k years later
+differs : (s : Style) (k : ℕ) → T (not (eqb (keyNumber s (1 + k)) (keyNumber s 1))) → DiffersAfter k (key s)
+differs s k t =
+    (1, omega arith, λ e. rw (eq-eqb _ _ (sym (key-number s (1 + k) (omega arith)) ∙ e ∙ key-number s 1 (omega arith))) at t)
 
 pub keys-differ : (s : Style) → All (λ k. DiffersAfter k (key s)) (shorter s)
 unfolding keyNumber limit luna epact arabic golden stands firstOf between
-keys-differ Julian =
-    differs Julian _ 6 10 refl refl tt
-    also differs Julian _ 6 9 refl refl tt
-    also differs Julian _ 6 27 refl refl tt
-    also none
-keys-differ Gregorian =
-    differs Gregorian _ 11 25 refl refl tt
-    also differs Gregorian _ 11 18 refl refl tt
-    also differs Gregorian _ 11 18 refl refl tt
-    also differs Gregorian _ 11 32 refl refl tt
-    also none
+keys-differ Julian = differs Julian _ tt also differs Julian _ tt also differs Julian _ tt also none
+keys-differ Gregorian = differs Gregorian _ tt also differs Gregorian _ tt also differs Gregorian _ tt also differs Gregorian _ tt also none
 
 least-period : (s : Style) (k : ℕ) → ReturnsAfter k (key s) → period s ∣ k
 unfolding prime
