@@ -14,7 +14,8 @@ use Rattle.calendar.proofs.distance.Laws.{both-days, distance-size, zer
 use Rattle.calendar.proofs.span.Laws.{span-small}
 use Rattle.calendar.proofs.style.Laws.{by-number, both-in, given-by-number, given-of-any}
 use Rattle.calendar.proofs.weekday.Laws.{is-later, is-earlier}
-use Rattle.calendar.proofs.year.Laws.{leap-returns, new-year-returns}
+use Rattle.calendar.proofs.year.Laws.{new-year-returns}
+pub use Rattle.calendar.proofs.year.Laws.{leap-years-return}
 use Rattle.calendar.specs.Date.{daysOfMonths, isDate, dayNumber, dateTests, dayInYear, dayOfDate, nextDate}
 use Rattle.calendar.specs.Date.{IsDateOf, IsDateOfDay, dateRefusal, dateNumbers}
 use Rattle.calendar.specs.Distance.{distanceOfDays}
@@ -24,7 +25,7 @@ use Rattle.calendar.specs.Return.{ReturnsAfter, weekdayPeriod}
 use Rattle.calendar.specs.Span.{firstDay, lastDay, earliest, inSpan, spanTests, dayOrRefusal}
 use Rattle.calendar.specs.Style.{styleNumber, styleBy, styleOf, styleRefusal, styleOrZero, byNumber}
 use Rattle.calendar.specs.Weekday.{weekday, weekdayOfDay, weekdayRefusal, firstWeekday, leastAway}
-use Rattle.calendar.specs.Year.{named, leap, daysOfYears, newYear, served}
+use Rattle.calendar.specs.Year.{named, daysOfYears, newYear, served}
 use Rattle.calendar.specs.declared.date.DateAnswer.the-variants.{On, NoDate}
 use Rattle.calendar.specs.declared.date.DateAnswer.{DateAnswer}
 use Rattle.calendar.specs.declared.distance.DistanceAnswer.the-variants.{Days}
@@ -198,10 +199,7 @@ before-differ w n low high late =
     let g = is-earlier Uncounted w n low high late in
     (λ e. (omega arith, omega arith), λ other. omega arith)
 
--- After 28 years in J, and after 400 in G, the same years are leap, and each date falls on the same weekday.
-pub leap-years-return : (s : Style) → ReturnsAfter (weekdayPeriod s) (leap s)
-leap-years-return = leap-returns
-
+-- After 28 years in J, and after 400 in G, leap years return (`leap-years-return`), and each date falls on the same weekday.
 pub weekdays-return : (s : Style) (m d : ℕ) → ReturnsAfter (weekdayPeriod s) (λ y. weekday (dayNumber s y m d))
 unfolding dayNumber
-weekdays-return s m d y h = rw (leap-returns s y h, new-year-returns s y h) (omega arith)
+weekdays-return s m d y h = rw (leap-years-return s y h, new-year-returns s y h) (omega arith)

@@ -22,9 +22,9 @@ remainder-returns y k d h =
     let whole : k ≡ k / d * d = omega (arith, div-add-mod' k d) in
     ap (λ (n : ℕ). (y + n) % d) whole ∙ add-mul-mod-self-right y (k / d) d
 
-pub leap-returns : (s : Style) → ReturnsAfter (weekdayPeriod s) (leap s)
-leap-returns Julian y h = simp remainder-returns
-leap-returns Gregorian y h = simp remainder-returns
+pub leap-years-return : (s : Style) → ReturnsAfter (weekdayPeriod s) (leap s)
+leap-years-return Julian y h = simp remainder-returns
+leap-years-return Gregorian y h = simp remainder-returns
 
 -- the quotient of a number that lies from one multiple up to the next
 quotient : (k n q : ℕ) → q * k ≤ n → n < q * k + k → n / k ≡ q
