@@ -96,7 +96,8 @@ const LAST_CENTURY: usize = 120_000;
 /// By how much the epacts of each century lie above those of century 0, before the remainder by 30.
 fn moved() -> Vec<i128> {
     let mut moved = vec![0];
-    // The moon's equation comes seven times after 300 years and the eighth time after 400; reckoned back from 1800, first in 200.
+    // The moon's equation comes seven times after 300 years and the eighth time after 400, as to 1800; reckoned back from there it first
+    // comes in 200, the fourth of its eight.
     let (mut moon, mut gaps) = (2, 3);
     for century in 1..=LAST_CENTURY {
         let mut epact = moved[century - 1];

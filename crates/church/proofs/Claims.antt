@@ -14,7 +14,7 @@ use Rattle.church.proofs.arithmetic.Laws as arithmetic-laws
 pub use Rattle.church.proofs.arithmetic.Laws.{brought-by-thirties}
 use Rattle.church.proofs.column.Laws.{walked}
 use Rattle.church.proofs.easter.Laws as easter-laws
-pub use Rattle.church.proofs.easter.Laws.{firstEaster, easter-years, limit-range, equinox-weekday, keyBy, key-closed, easter-in-span}
+pub use Rattle.church.proofs.easter.Laws.{firstEaster, easter-years, limit-range, equinox-weekday, key-closed, easter-in-span}
 use Rattle.church.proofs.epact.Laws as epact-laws
 pub use Rattle.church.proofs.epact.Laws.{epact-small}
 use Rattle.church.proofs.feast.Laws as feast-laws
@@ -168,20 +168,18 @@ one-advent s y n from to falls =
     let w = feast-laws.week-long s y in
     omega arith
 
--- What the tables depend on, of two years that may be of two styles: the key on the limit and on the weekday of 21 March alone (`key-closed`, `same-key`), the
--- Sunday letters on that weekday and on whether the year is leap (`same-letters`), the feasts' days of the year on that and on the key (`same-feasts`); the
--- weekday on the year by its closed form (`equinox-weekday`); and in a style the epact, whether it is the Arabic 25 and the limit on the golden number and, in
--- G, on the hundreds by their correction (`epact-closed`, `same-limit`). Every feast lies in its year, which its day of the year is counted in (`feast-in-year`).
-
--- The Sunday letters return after 28 years in J and after 400 in G.
+-- The Sunday letters return after 28 years in J and after 400 in G; they depend on whether the year is leap and on the weekday of 21 March alone
+-- (`same-letters`), which is told by a closed form (`equinox-weekday`).
 pub letters-return : (s : Style) (y : ℕ) → 1 ≤ y → SameLetters s s (y + weekdayPeriod s) y
 letters-return = period-laws.letters-return
 
--- J keys return after 532 years, and G keys after 5,700,000.
+-- J keys return after 532 years, and G keys after 5,700,000; they depend on the limit and that weekday alone (`key-closed`, `same-key`), and the limit on the
+-- golden number and, in G, on the hundreds by their correction (`epact-closed`, `same-limit`).
 pub keys-return : (s : Style) → ReturnsAfter (period s) (key s)
 keys-return = period-laws.keys-return
 
--- With them return whether the year is leap, golden number, epact and whether Arabic, Sunday letters, limit, and every feast's day of the year.
+-- With them return whether the year is leap, golden number, epact and whether Arabic, Sunday letters, limit, and every feast's day of the year, which depends on
+-- the key and on whether the year is leap alone (`same-feasts`); each feast lies in its year (`feast-in-year`).
 pub tables-return : (s : Style) → TablesReturn s (period s)
 tables-return = period-laws.tables-return
 

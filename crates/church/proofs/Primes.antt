@@ -15,6 +15,7 @@ use Rattle.calendar.proofs.Table.{All, none, _also_}
 divides-one : ℕ → ℕ → ℕ → Bool
 divides-one p a b = eqb a 0 || (ltb 0 (a * b % p) || eqb b 0)
 
+-- a prime number by what it is used for: above 1, and dividing no product but where it divides a factor
 unfoldable pub prime : ℕ → Bool
 unfolding divides-one
 prime p = ltb 1 p && each (λ a. each (divides-one p a) p) p

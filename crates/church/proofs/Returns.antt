@@ -2,7 +2,8 @@
 use mathlib.Core.List.{List, [], _∷_}
 use mathlib.Core.Path.{_≡_, sym, _∙_, ap}
 use Prim.Native.Nat.{ℕ, zero, suc, _+_, _*_, _/_, _%_, _^_, _≤_, _∣_}
-use native.Mathlib.Nat.{add-zero, zero-mul, one-mul, div-add-mod', mod-lt, mul-div-cancel, dvd-refl, dvd-zero, dvd-trans, dvd-mul-right, dvd-mod-iff, div-mul-cancel}
+use native.Mathlib.Nat.{add-zero, zero-mul, one-mul, div-add-mod', mod-lt, mul-div-cancel}
+use native.Mathlib.Nat.{dvd-refl, dvd-zero, dvd-trans, dvd-mul-right, dvd-mod-iff, div-mul-cancel}
 use native.Mathlib.Decide.{decLt}
 use native.Mathlib.Omega.{arith}
 use lib.Dec.{T}

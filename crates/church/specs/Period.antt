@@ -35,6 +35,10 @@ abbrev pub equinoxWeekday : Style → ℕ → ℕ
 equinoxWeekday Julian y = (y + y / 4 + 6) % 7 + 1
 equinoxWeekday Gregorian y = (y + y / 4 + y / 400 - y / 100 + 1) % 7 + 1
 
+-- the key that a limit and the weekday of 21 March make
+abbrev pub keyBy : ℕ → ℕ → ℕ
+keyBy l w = l - 14 - (w + l) % 7
+
 -- the day of the year on which the feast with the number f is kept, 1 January being the first
 abbrev pub feastDayOfYear : ℕ → Style → ℕ → ℕ
 feastDayOfYear f s y = ruleNumber (rule f) s y - newYear s y + 1

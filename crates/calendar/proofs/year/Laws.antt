@@ -1,8 +1,8 @@
 -- Counted years in closed form, and the one year that holds a day.
 use mathlib.Core.Bool.{Bool, true, false, _&&_, _||_, not, cond}
-use mathlib.Core.Path.{_≡_, refl, _∙_, ap}
+use mathlib.Core.Path.{_≡_, refl, sym, _∙_}
 use Prim.Native.Nat.{ℕ, zero, suc, _+_, _-_, _*_, _/_, _%_, _≤_, _<_}
-use native.Mathlib.Nat.{le-refl, zero-mul, suc-mul, add-mul, one-mul, div-add-mod', mod-lt, div-eq-of-lt-le, add-mul-mod-self-right}
+use native.Mathlib.Nat.{le-refl, add-zero, zero-mul, suc-mul, add-mul, one-mul, div-add-mod', mod-lt, div-eq-of-lt-le, add-mod-mod}
 use native.Mathlib.Numerals.{add-one}
 use native.Mathlib.Omega.{arith}
 use borrow.Author.Tests.{eqb-true, eqb-false}
@@ -18,9 +18,7 @@ bit b = cond b 1 0
 
 -- remainders, and so leap years, return after a multiple
 remainder-returns : (y k d : ℕ) → k % d ≡ 0 → (y + k) % d ≡ y % d
-remainder-returns y k d h =
-    let whole : k ≡ k / d * d = omega (arith, div-add-mod' k d) in
-    ap (λ (n : ℕ). (y + n) % d) whole ∙ add-mul-mod-self-right y (k / d) d
+remainder-returns y k d h = sym (add-mod-mod y k d) ∙ rw (h, add-zero)
 
 pub leap-years-return : (s : Style) → ReturnsAfter (weekdayPeriod s) (leap s)
 leap-years-return Julian y h = simp remainder-returns
@@ -65,7 +63,7 @@ pub choices-small : (s : Style) (n : ℕ) → (firstNewYear s ≤ 1721426) × (h
 choices-small Julian n = omega arith
 choices-small Gregorian n = omega arith
 
-fourth-hundreds : (n : ℕ) → n / 100 / 4 ≡ n / 400
+pub fourth-hundreds : (n : ℕ) → n / 100 / 4 ≡ n / 400
 fourth-hundreds n = omega arith
 
 -- one common or leap year more, with q, c and d for the multiples of 4, 100 and 400

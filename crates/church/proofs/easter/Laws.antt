@@ -13,7 +13,7 @@ use Rattle.calendar.proofs.range.Laws.{in-range}
 use Rattle.calendar.proofs.refusal.Laws.{no-day, passed}
 use Rattle.calendar.proofs.span.Laws.{span-range, span-small, served-range, served-small, span-start, in-span-from}
 use Rattle.calendar.proofs.weekday.Laws.{is-later}
-use Rattle.calendar.proofs.year.Laws.{closed, new-year-closed, year-up}
+use Rattle.calendar.proofs.year.Laws.{closed, fourth-hundreds, new-year-closed, year-up}
 use Rattle.church.proofs.column.Laws.{luna-range}
 use Rattle.calendar.specs.Date.{daysOfMonths, isDate, dayNumber, dateTests, dayInYear}
 use Rattle.calendar.specs.Range.{between}
@@ -22,7 +22,7 @@ use Rattle.calendar.specs.Weekday.{weekday, sunday, firstWeekday}
 use Rattle.calendar.specs.Year.{named, leap, firstNewYear, newYear, YearOf, served}
 use Rattle.church.specs.Easter.{limit, march, easter, key, reformYear, hasEaster}
 use Rattle.church.specs.Feast.{+_, daysFrom}
-use Rattle.church.specs.Period.{equinoxWeekday}
+use Rattle.church.specs.Period.{equinoxWeekday, keyBy}
 use Rattle.calendar.specs.declared.refusal.Refusal.{Refusal}
 use Rattle.calendar.specs.declared.span.DayAnswer.the-variants.{Day, NoDay}
 use Rattle.calendar.specs.declared.style.Style.the-variants.{Julian, Gregorian}
@@ -91,8 +91,8 @@ near-in-year s y n one from to =
     let more = one-more (leap s y) in
     record { one = one; from = omega arith; to = omega arith }
 
-near-easter : (s : Style) (y n : ℕ) → hasEaster s y ≡ true → march s y 21 ≤ n + 62 → n ≤ march s y 21 + 95 → inSpan s n ≡ true
-near-easter s y n h from to = year-in-span s y n h (near-in-year s y n (has-year s y h) from to)
+equinox-in-span : (s : Style) (y : ℕ) → hasEaster s y ≡ true → inSpan s (march s y 21) ≡ true
+equinox-in-span s y h = year-in-span s y (march s y 21) h (near-in-year s y (march s y 21) (has-year s y h) (omega arith) (omega arith))
 
 -- 21 March lies so many days before the next new year, whether the year is leap or not
 equinox-back : (s : Style) (y : ℕ) → 1 ≤ y → march s y 21 + 286 ≡ firstNewYear s + closed s y
@@ -108,8 +108,8 @@ by-sevens n a b c d h e = omega arith
 pub equinox-weekday : (s : Style) (y : ℕ) → 1 ≤ y → weekday (march s y 21) ≡ equinoxWeekday s y
 equinox-weekday Julian y h = omega (arith, equinox-back Julian y h)
 equinox-weekday Gregorian y h =
-    let fourths : y / 100 / 4 ≡ y / 400 = omega arith in
-    ap (λ (n : ℕ). n + 1) (by-sevens (march Gregorian y 21) y (y / 4) (y / 100) (y / 400) (omega arith) (rw fourths at (equinox-back Gregorian y h)))
+    let back = rw (fourth-hundreds y) at (equinox-back Gregorian y h) in
+    ap (λ (n : ℕ). n + 1) (by-sevens (march Gregorian y 21) y (y / 4) (y / 100) (y / 400) (omega arith) back)
 
 -- 21 March is answered exactly where Easter is: in 1582 of G it lies before the span
 not-reform : (s : Style) (y : ℕ) → inSpan s (march s y 21) ≡ true → reformYear s y ≡ false
@@ -132,11 +132,11 @@ unfolding dayInYear isDate between march
 no-equinox s y x e = go _ refl
   where
     go : (t : Bool) → hasEaster s y ≡ t → t ≡ false
-    go true h = no-day x (march s y 21) (sym e ∙ rw (easter-served s y h, near-easter s y (march s y 21) h (omega arith) (omega arith)))
+    go true h = no-day x (march s y 21) (sym e ∙ rw (easter-served s y h, equinox-in-span s y h))
     go false h = refl
 
 equinox-small : (s : Style) (y : ℕ) → hasEaster s y ≡ true → (earliest ≤ march s y 21) × (march s y 21 ≤ latest)
-equinox-small s y h = span-small s (march s y 21) (near-easter s y (march s y 21) h (omega arith) (omega arith))
+equinox-small s y h = span-small s (march s y 21) (equinox-in-span s y h)
 
 -- The limit lies from 21 to 49.
 pub limit-range : (s : Style) (y : ℕ) → (21 ≤ limit s y) × (limit s y ≤ 49)
@@ -174,9 +174,6 @@ easter-facts s y =
     record { later = omega arith; week = omega arith; falls = f .2; key-low = omega arith; key-high = omega arith; by-key = omega arith }
 
 -- The key depends on the limit and on the weekday of 21 March alone.
-abbrev pub keyBy : ℕ → ℕ → ℕ
-keyBy l w = l - 14 - (w + l) % 7
-
 pub key-closed : (s : Style) (y : ℕ) → key s y ≡ keyBy (limit s y) (weekday (march s y 21))
 key-closed s y =
     let f = easter-facts s y in

@@ -13,7 +13,7 @@ use Rattle.calendar.proofs.Table.{All, none, _also_}
 use Rattle.church.proofs.Primes.{prime}
 use Rattle.church.proofs.Returns.{multiple, least}
 use Rattle.church.proofs.arithmetic.Laws.{z, z-closed, epact-sum}
-use Rattle.church.proofs.easter.Laws.{equinox-weekday, march-21, easter-facts, keyBy, key-closed}
+use Rattle.church.proofs.easter.Laws.{equinox-weekday, march-21, easter-facts, key-closed}
 use Rattle.church.proofs.epact.Laws.{golden-range}
 use Rattle.church.proofs.feast.Laws.{from-63, of-date, good, rule-good, week-long, advent-week}
 use Rattle.church.proofs.letter.Laws as letter-laws
@@ -28,7 +28,7 @@ use Rattle.church.specs.Easter.{limit, march, easter, key}
 use Rattle.church.specs.Epact.{golden, hundreds, epact, arabic}
 use Rattle.church.specs.Feast.{Rule, hung, on, onOrInLeapYears, advent, rule, adventSunday, ruleNumber}
 use Rattle.church.specs.Letter.{Part, SundayLetter}
-use Rattle.church.specs.Period.{period, shorter, correction, equinoxWeekday, SameLetters, SameFeasts, TablesReturn}
+use Rattle.church.specs.Period.{period, shorter, correction, equinoxWeekday, keyBy, SameLetters, SameFeasts, TablesReturn}
 use Rattle.calendar.specs.declared.style.Style.the-variants.{Julian, Gregorian}
 use Rattle.calendar.specs.declared.style.Style.{Style}
 
@@ -127,38 +127,39 @@ whole-periods Gregorian = refl
 in-period : {A : Type 0} (s : Style) (has : ℕ → A) → ReturnsAfter (weekdayPeriod s) has → ReturnsAfter (period s) has
 in-period s has r = rw (whole-periods s) at (multiple has (weekdayPeriod s) (period s / weekdayPeriod s) r)
 
-leap-returns : (s : Style) → ReturnsAfter (period s) (leap s)
-leap-returns s = in-period s (leap s) (leap-years-return s)
+leap-in-period : (s : Style) → ReturnsAfter (period s) (leap s)
+leap-in-period s = in-period s (leap s) (leap-years-return s)
 
-equinox-week : (s : Style) → ReturnsAfter (weekdayPeriod s) (λ y. weekday (march s y 21))
+equinox-returns : (s : Style) → ReturnsAfter (weekdayPeriod s) (λ y. weekday (march s y 21))
 unfolding march
-equinox-week s = weekdays-return s 3 21
+equinox-returns s = weekdays-return s 3 21
 
-equinox-returns : (s : Style) → ReturnsAfter (period s) (λ y. weekday (march s y 21))
-equinox-returns s = in-period s (λ y. weekday (march s y 21)) (equinox-week s)
+equinox-in-period : (s : Style) → ReturnsAfter (period s) (λ y. weekday (march s y 21))
+equinox-in-period s = in-period s (λ y. weekday (march s y 21)) (equinox-returns s)
 
 pub letters-return : (s : Style) (y : ℕ) → 1 ≤ y → SameLetters s s (y + weekdayPeriod s) y
-letters-return s y h = same-letters s s (y + weekdayPeriod s) y (leap-years-return s y h) (equinox-week s y h)
+letters-return s y h = same-letters s s (y + weekdayPeriod s) y (leap-years-return s y h) (equinox-returns s y h)
 
+-- the limit returns, with the epact and whether it is the Arabic 25
 limit-returns : (s : Style) (y : ℕ) → 1 ≤ y
     → let y′ = y + period s in
     (epact s y′ ≡ epact s y) × (arabic s y′ ≡ arabic s y) × (limit s y′ ≡ limit s y)
 limit-returns s y h = same-limit s (y + period s) y (golden-returns s y h) (correction-returns s y h)
 
 pub keys-return : (s : Style) → ReturnsAfter (period s) (key s)
-keys-return s y h = same-key s s (y + period s) y (limit-returns s y h .2) (equinox-returns s y h)
+keys-return s y h = same-key s s (y + period s) y (limit-returns s y h .2) (equinox-in-period s y h)
 
 pub tables-return : (s : Style) → TablesReturn s (period s)
 tables-return s =
     record {
-      leap-years = leap-returns s;
+      leap-years = leap-in-period s;
       golden-numbers = golden-returns s;
       epacts = λ y h. limit-returns s y h .0;
       arabics = λ y h. limit-returns s y h .1;
-      letters = λ y h. same-letters s s (y + period s) y (leap-returns s y h) (equinox-returns s y h);
+      letters = λ y h. same-letters s s (y + period s) y (leap-in-period s y h) (equinox-in-period s y h);
       limits = λ y h. limit-returns s y h .2;
       keys = keys-return s;
-      feasts = λ y h. same-feasts s s (y + period s) y (leap-returns s y h) (keys-return s y h);
+      feasts = λ y h. same-feasts s s (y + period s) y (leap-in-period s y h) (keys-return s y h);
     }
 
 -- the key of a year from 1 on with no year counted
