@@ -178,8 +178,8 @@ letters-return = period-laws.letters-return
 pub keys-return : (s : Style) → ReturnsAfter (period s) (key s)
 keys-return = period-laws.keys-return
 
--- With them return whether the year is leap, golden number, epact and whether Arabic, Sunday letters, limit, and every feast's day of the year, which depends on
--- the key and on whether the year is leap alone (`same-feasts`); each feast lies in its year (`feast-in-year`).
+-- With them return whether the year is leap, golden number, epact and whether Arabic, Sunday letters, limit, and every feast's day of the year, which depends
+-- on the key and on whether the year is leap alone (`same-feasts`); each feast lies in its year (`feast-in-year`).
 pub tables-return : (s : Style) → TablesReturn s (period s)
 tables-return = period-laws.tables-return
 
