@@ -9,30 +9,32 @@ use lib.Dec.{eqb}
 use lib.IntN.{ℤ, pos, natAbs}
 use borrow.Author.Tests.{le-leb, lt-leb, eqb-true, eqb-false}
 use Rattle.calendar.proofs.date.Laws as laws
-pub use Rattle.calendar.proofs.date.Laws.{one-answer-in-style, day-range}
+pub use Rattle.calendar.proofs.date.Laws.{day-range}
 use Rattle.calendar.proofs.distance.Laws.{both-days, distance-size, zero-same-day, same-day-zero}
 use Rattle.calendar.proofs.span.Laws.{span-small}
 use Rattle.calendar.proofs.style.Laws.{by-number, both-in, given-by-number, given-of-any}
 use Rattle.calendar.proofs.weekday.Laws.{is-later, is-earlier}
 use Rattle.calendar.proofs.year.Laws.{new-year-returns}
 pub use Rattle.calendar.proofs.year.Laws.{leap-years-return}
-use Rattle.calendar.specs.Date.{daysOfMonths, isDate, dayNumber, dateTests, dayInYear, dayOfDate, nextDate}
-use Rattle.calendar.specs.Date.{IsDateOf, IsDateOfDay, dateRefusal, dateNumbers}
+use Rattle.calendar.specs.Date.{daysOfMonths, isDate, dayNumber, dateTests, dayInCalendar, dayOfDate, nextDate}
+use Rattle.calendar.specs.Date.{IsDateOf, IsDateInStyle, IsDateOfDay, dateRefusal, dateNumbers}
 use Rattle.calendar.specs.Distance.{distanceOfDays}
 use Rattle.calendar.specs.Range.{between}
 use Rattle.calendar.specs.Refusal.{Holds, Lowest}
 use Rattle.calendar.specs.Return.{ReturnsAfter, weekdayPeriod}
 use Rattle.calendar.specs.Span.{firstDay, lastDay, earliest, inSpan, spanTests, dayOrRefusal}
-use Rattle.calendar.specs.Style.{styleNumber, styleBy, styleOf, styleRefusal, styleOrZero, byNumber}
+use Rattle.calendar.specs.Style.{styleNumber, datesBy, calendarBy, styleOf, styleRefusal, styleOrZero, byNumber}
 use Rattle.calendar.specs.Weekday.{weekday, weekdayOfDay, weekdayRefusal, firstWeekday, leastAway}
-use Rattle.calendar.specs.Year.{named, daysOfYears, newYear, served}
+use Rattle.calendar.specs.Year.{daysOfYears, firstYear, newYear, served}
 use Rattle.calendar.specs.declared.date.DateAnswer.the-variants.{On, NoDate}
 use Rattle.calendar.specs.declared.date.DateAnswer.{DateAnswer}
 use Rattle.calendar.specs.declared.distance.DistanceAnswer.the-variants.{Days}
 use Rattle.calendar.specs.declared.refusal.Refusal.the-variants.{Name}
 use Rattle.calendar.specs.declared.span.DayAnswer.the-variants.{Day, NoDay}
 use Rattle.calendar.specs.declared.span.DayAnswer.{DayAnswer}
-use Rattle.calendar.specs.declared.style.Style.the-variants.{Julian, Gregorian}
+use Rattle.calendar.specs.declared.style.Calendar.the-variants.{Julian, Gregorian}
+use Rattle.calendar.specs.declared.style.Calendar.{Calendar}
+use Rattle.calendar.specs.declared.style.Style.the-variants.{J, G}
 use Rattle.calendar.specs.declared.style.Style.{Style}
 use Rattle.calendar.specs.declared.style.StyleAnswer.the-variants.{Known, NoStyle}
 use Rattle.calendar.specs.declared.weekday.Side.the-variants.{After, Before}
@@ -40,7 +42,10 @@ use Rattle.calendar.specs.declared.weekday.Start.the-variants.{Counted, 
 use Rattle.calendar.specs.declared.weekday.Start.{Start}
 use Rattle.calendar.specs.declared.weekday.WeekdayAnswer.the-variants.{Weekday, NoWeekday}
 
--- Any two answers that day to date may give are equal, in a style (`one-answer-in-style`) and by its number.
+-- Any two answers that day to date may give are equal, in a style and by its number.
+pub one-answer-in-style : (s : Style) (n : ℕ) (r r′ : DateAnswer) → IsDateInStyle s n r → IsDateInStyle s n r′ → r ≡ r′
+one-answer-in-style s = laws.one-answer-in-calendar (datesBy s)
+
 pub one-answer : (k n : ℕ) (r r′ : DateAnswer) → IsDateOfDay k n r → IsDateOfDay k n r′ → r ≡ r′
 one-answer k n r r′ h h′ = both-in (styleOf k) (λ s. one-answer-in-style s n r r′) (λ x p q. p ∙ sym q) h h′
 
@@ -52,56 +57,56 @@ unfolding styleOf
 style-numbers k = go _ _ refl refl
   where
     none : (s : Style) → eqb k 1 ≡ false → eqb k 2 ≡ false → styleNumber s ≡ k → ⊥
-    none Julian p q e = eqb-false k 1 p (sym e)
-    none Gregorian p q e = eqb-false k 2 q (sym e)
+    none J p q e = eqb-false k 1 p (sym e)
+    none G p q e = eqb-false k 2 q (sym e)
 
     go : (a b : Bool) → eqb k 1 ≡ a → eqb k 2 ≡ b
-        → let t = cond a (Known Julian) (cond b (Known Gregorian) (NoStyle Name)) in
+        → let t = cond a (Known J) (cond b (Known G) (NoStyle Name)) in
         ((styleRefusal t ≡ 0) × (styleOrZero t ≡ k)) ⊎ ((styleRefusal t ≡ 1) × ((s : Style) → styleNumber s ≡ k → ⊥))
     go true b p q = inl (refl, sym (eqb-true k 1 p))
     go false true p q = inl (refl, sym (eqb-true k 2 q))
     go false false p q = inr (refl, λ s e. none s p q e)
 
--- A style has one truth value by which it is handed on.
-pub one-truth : (a b : Bool) → styleBy a ≡ styleBy b → a ≡ b
+-- A calendar has one truth value by which it is handed on.
+pub one-truth : (a b : Bool) → calendarBy a ≡ calendarBy b → a ≡ b
 one-truth true true e = refl
-one-truth true false e = absurd (omega (arith, ap styleNumber e))
-one-truth false true e = absurd (omega (arith, ap styleNumber e))
+one-truth true false e = absurd (omega (arith, ap firstYear e))
+one-truth false true e = absurd (omega (arith, ap firstYear e))
 one-truth false false e = refl
 
 -- "The lowest number that holds is given, and none otherwise": date to day, the weekday and day to date are refused by n exactly when it is that.
 pub date-to-day-refused : (k y m d n : ℕ) → n < earliest
-    → (dayOrRefusal (dayOfDate k y m d) ≡ n) ↔ Lowest (Holds (byNumber (λ s. dateTests (named s y) m d) k)) n
-unfolding dayInYear
+    → (dayOrRefusal (dayOfDate k y m d) ≡ n) ↔ Lowest (Holds (byNumber (λ s. dateTests (datesBy s) y m d) k)) n
+unfolding dayInCalendar
 date-to-day-refused k y m d n low =
-    given-by-number dayOrRefusal NoDay (λ x. refl) n (λ s. Day (dayNumber s y m d)) (λ s. dateTests (named s y) m d) (λ s. tt)
-    (λ s all e. omega (arith, span-small s (dayNumber s y m d) (all .1 .1 .0))) k
+    given-by-number dayOrRefusal NoDay (λ x. refl) n (λ s. Day (dayNumber (datesBy s) y m d)) (λ s. dateTests (datesBy s) y m d) (λ s. tt)
+    (λ s all e. omega (arith, span-small (datesBy s) (dayNumber (datesBy s) y m d) (all .1 .1 .0))) k
 
-pub weekday-refused : (k d n : ℕ) → 1 ≤ n → (weekdayRefusal (weekdayOfDay k d) ≡ n) ↔ Lowest (Holds (byNumber (λ s. spanTests s d) k)) n
+pub weekday-refused : (k d n : ℕ) → 1 ≤ n → (weekdayRefusal (weekdayOfDay k d) ≡ n) ↔ Lowest (Holds (byNumber (λ s. spanTests (datesBy s) d) k)) n
 weekday-refused k d n some =
-    given-by-number weekdayRefusal NoWeekday (λ x. refl) n (λ s. Weekday (weekday d)) (λ s. spanTests s d) (λ s. tt) (λ s all e. omega arith) k
+    given-by-number weekdayRefusal NoWeekday (λ x. refl) n (λ s. Weekday (weekday d)) (λ s. spanTests (datesBy s) d) (λ s. tt) (λ s all e. omega arith) k
 
 pub day-to-date-refused : (k d n : ℕ) (r : DateAnswer) → 1 ≤ n → IsDateOfDay k d r
-    → (dateRefusal r ≡ n) ↔ Lowest (Holds (byNumber (λ s. spanTests s d) k)) n
+    → (dateRefusal r ≡ n) ↔ Lowest (Holds (byNumber (λ s. spanTests (datesBy s) d) k)) n
 day-to-date-refused k d n r some h =
-    given-of-any (λ x. r ≡ NoDate x) (λ s. IsDateOf s d r) (dateRefusal r) (λ x. ap dateRefusal) n (λ s. spanTests s d) (λ s. tt) (λ s. is-date s r) k h
+    given-of-any (λ x. r ≡ NoDate x) (λ s. IsDateOf (datesBy s) d r) (dateRefusal r) (λ x. ap dateRefusal) n (λ s. spanTests (datesBy s) d) (λ s. tt) (λ s. is-date (datesBy s) r) k h
   where
-    is-date : (s : Style) (r : DateAnswer) → IsDateOf s d r → dateRefusal r ≡ n → ⊥
-    is-date s (On y m d) h e = omega arith
-    is-date s (NoDate x) h e = h
+    is-date : (c : Calendar) (r : DateAnswer) → IsDateOf c d r → dateRefusal r ≡ n → ⊥
+    is-date c (On y m d) h e = omega arith
+    is-date c (NoDate x) h e = h
 
 -- Day to date answers the day of a date with that date.
 pub date-of-its-day : (k n y m d : ℕ) (r : DateAnswer) → dayOfDate k y m d ≡ Day n → IsDateOfDay k n r → r ≡ On y m d
 date-of-its-day k n y m d r e h =
     let g = laws.known-style k n y m d e in
-    one-answer k n r (On y m d) h (rw (g .1) (laws.day-date (g .0) n y m d (g .2)))
+    one-answer k n r (On y m d) h (rw (g .1) (laws.day-date (datesBy (g .0)) n y m d (g .2)))
 
 -- Every day of the span has a date.
-pub has-date : (s : Style) (n : ℕ) → inSpan s n ≡ true → (y : ℕ) × (m : ℕ) × (d : ℕ) × (dayOfDate (styleNumber s) y m d ≡ Day n)
-has-date s n i = rw by-number (laws.has-date s n i)
+pub has-date : (s : Style) (n : ℕ) → inSpan (datesBy s) n ≡ true → (y : ℕ) × (m : ℕ) × (d : ℕ) × (dayOfDate (styleNumber s) y m d ≡ Day n)
+has-date s n i = rw by-number (laws.has-date (datesBy s) n i)
 
 -- Day to date answers every day of the span with the numbers of a date, whose day is that day.
-pub day-of-its-date : (s : Style) (n : ℕ) (r : DateAnswer) → inSpan s n ≡ true → IsDateOfDay (styleNumber s) n r
+pub day-of-its-date : (s : Style) (n : ℕ) (r : DateAnswer) → inSpan (datesBy s) n ≡ true → IsDateOfDay (styleNumber s) n r
     → (y : ℕ) × (m : ℕ) × (d : ℕ) × (dateNumbers r ≡ y ∷ m ∷ d ∷ []) × (dayOfDate (styleNumber s) y m d ≡ Day n)
 day-of-its-date s n r i h =
     let g = has-date s n i in
@@ -112,39 +117,39 @@ pub one-date : (k n y m d y′ m′ d′ : ℕ) → dayOfDate k y m d ≡ Day n 
     → (y ≡ y′) × (m ≡ m′) × (d ≡ d′)
 one-date k n y m d y′ m′ d′ e e′ =
     let g = laws.known-style k n y m d e in
-    let same = date-of-its-day k n y′ m′ d′ (On y m d) e′ (rw (g .1) (laws.day-date (g .0) n y m d (g .2))) in
+    let same = date-of-its-day k n y′ m′ d′ (On y m d) e′ (rw (g .1) (laws.day-date (datesBy (g .0)) n y m d (g .2))) in
     (cc, cc, cc)
 
 -- The date of the next day is the next date of the calendar.
-pub next-date : (s : Style) (n y m d : ℕ) (r : DateAnswer) → IsDateOfDay (styleNumber s) n (On y m d) → inSpan s (n + 1) ≡ true
-    → IsDateOfDay (styleNumber s) (n + 1) r → r ≡ nextDate s y m d
+pub next-date : (s : Style) (n y m d : ℕ) (r : DateAnswer) → IsDateOfDay (styleNumber s) n (On y m d) → inSpan (datesBy s) (n + 1) ≡ true
+    → IsDateOfDay (styleNumber s) (n + 1) r → r ≡ nextDate (datesBy s) y m d
 next-date s n y m d r h i h′ =
-    one-answer-in-style s (n + 1) r (nextDate s y m d) (rw by-number at h′) (laws.next-date s n y m d (rw by-number at h) i)
+    one-answer-in-style s (n + 1) r (nextDate (datesBy s) y m d) (rw by-number at h′) (laws.next-date (datesBy s) n y m d (rw by-number at h) i)
 
 -- The span begins on 1 January 1 in J and on 15 October 1582 in G, and ends on 31 December 9999 in both.
 pub span-ends : (dayNumber Julian 1 1 1 ≡ firstDay Julian)
-    × ((dayNumber Gregorian 1582 10 15 ≡ firstDay Gregorian) × ((s : Style) → dayNumber s 9999 12 31 ≡ lastDay s))
+    × ((dayNumber Gregorian 1582 10 15 ≡ firstDay Gregorian) × ((c : Calendar) → dayNumber c 9999 12 31 ≡ lastDay c))
 unfolding dayNumber daysOfMonths newYear daysOfYears
-span-ends = (refl, (refl, λ s. last s))
+span-ends = (refl, (refl, λ c. last c))
   where
-    last : (s : Style) → dayNumber s 9999 12 31 ≡ lastDay s
+    last : (c : Calendar) → dayNumber c 9999 12 31 ≡ lastDay c
     last Julian = refl
     last Gregorian = refl
 
 -- Both styles may name the same day: 5 October 1582 J is 15 October 1582 G, the day 2299161.
-pub same-day : (dayOfDate (styleNumber Julian) 1582 10 5 ≡ Day 2299161) × (dayOfDate (styleNumber Gregorian) 1582 10 15 ≡ Day 2299161)
-unfolding styleOf dayInYear served isDate inSpan between dayNumber daysOfMonths newYear daysOfYears
+pub same-day : (dayOfDate (styleNumber J) 1582 10 5 ≡ Day 2299161) × (dayOfDate (styleNumber G) 1582 10 15 ≡ Day 2299161)
+unfolding styleOf dayInCalendar served isDate inSpan between dayNumber daysOfMonths newYear daysOfYears
 same-day = (refl, refl)
 
 -- A G year below 1582 is refused by 4, whatever the month and the day.
-pub early-year : (y m d : ℕ) → y < 1582 → dayOrRefusal (dayOfDate (styleNumber Gregorian) y m d) ≡ 4
-unfolding styleOf dayInYear served between
+pub early-year : (y m d : ℕ) → y < 1582 → dayOrRefusal (dayOfDate (styleNumber G) y m d) ≡ 4
+unfolding styleOf dayInCalendar served between
 early-year y m d h = rw (lt-leb 1582 y h)
 
 -- "5 to 14 October 1582 G are dates, but outside the span."
 pub lost-days : (d : ℕ) → 5 ≤ d → d ≤ 14
-    → (isDate Gregorian 1582 10 d ≡ true) × (dayOrRefusal (dayOfDate (styleNumber Gregorian) 1582 10 d) ≡ 6)
-unfolding styleOf dayInYear served isDate inSpan between dayNumber daysOfMonths newYear daysOfYears
+    → (isDate Gregorian 1582 10 d ≡ true) × (dayOrRefusal (dayOfDate (styleNumber G) 1582 10 d) ≡ 6)
+unfolding styleOf dayInCalendar served isDate inSpan between dayNumber daysOfMonths newYear daysOfYears
 lost-days d low high = (
   rw (le-leb 1 d (omega arith), le-leb d 31 (omega arith)),
   rw (le-leb 1 d (omega arith), le-leb d 31 (omega arith), lt-leb 2299161 (2299147 + pred d) (omega arith)),
@@ -200,6 +205,6 @@ before-differ w n low high late =
     (λ e. (omega arith, omega arith), λ other. omega arith)
 
 -- After 28 years in J, and after 400 in G, leap years return (`leap-years-return`), and each date falls on the same weekday.
-pub weekdays-return : (s : Style) (m d : ℕ) → ReturnsAfter (weekdayPeriod s) (λ y. weekday (dayNumber s y m d))
+pub weekdays-return : (c : Calendar) (m d : ℕ) → ReturnsAfter (weekdayPeriod c) (λ y. weekday (dayNumber c y m d))
 unfolding dayNumber
-weekdays-return s m d y h = rw (leap-years-return s y h, new-year-returns s y h) (omega arith)
+weekdays-return c m d y h = rw (leap-years-return c y h, new-year-returns c y h) (omega arith)

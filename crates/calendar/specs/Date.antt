@@ -8,13 +8,14 @@ use lib.ListN.{getD}
 use Rattle.calendar.specs.Range.{between}
 use Rattle.calendar.specs.Refusal.{refusalNumber, Test, _unless_, checked}
 use Rattle.calendar.specs.Span.{inSpan, spanTests}
-use Rattle.calendar.specs.Style.{styleOf, inStyle}
+use Rattle.calendar.specs.Style.{datesBy, styleOf, inStyle}
 use Rattle.calendar.specs.Year.{named, leap, newYear, served}
 use Rattle.calendar.specs.declared.date.DateAnswer.the-variants.{On, NoDate}
 use Rattle.calendar.specs.declared.date.DateAnswer.{DateAnswer}
 use Rattle.calendar.specs.declared.refusal.Refusal.the-variants.{Year, Date, Span}
 use Rattle.calendar.specs.declared.span.DayAnswer.the-variants.{Day, NoDay}
 use Rattle.calendar.specs.declared.span.DayAnswer.{DayAnswer}
+use Rattle.calendar.specs.declared.style.Calendar.{Calendar}
 use Rattle.calendar.specs.declared.style.Style.{Style}
 use Rattle.calendar.specs.declared.year.NamedYear.{NamedYear}
 
@@ -39,37 +40,44 @@ pub record MonthOf (b : Bool) (i m : ℕ) : Type 0 where
   pub to : i < daysOfMonths b m
 
 -- the dates that there are; else refusal 5: "no such month, or no such day in that month of that year"
-unfoldable pub isDate : Style → ℕ → ℕ → ℕ → Bool
-isDate s y m d = between 1 m 12 && between 1 d (monthLength (leap s y) m)
+unfoldable pub isDate : Calendar → ℕ → ℕ → ℕ → Bool
+isDate c y m d = between 1 m 12 && between 1 d (monthLength (leap c y) m)
 
 -- the day of a date: 1 January, and the months and the days of the month before it
-unfoldable pub dayNumber : Style → ℕ → ℕ → ℕ → ℕ
-dayNumber s y m d = newYear s y + daysOfMonths (leap s y) (pred m) + pred d
+unfoldable pub dayNumber : Calendar → ℕ → ℕ → ℕ → ℕ
+dayNumber c y m d = newYear c y + daysOfMonths (leap c y) (pred m) + pred d
 
--- the tests of a date of the named year t
-abbrev pub dateTests : NamedYear → ℕ → ℕ → List Test
-dateTests t m d =
-    Year unless served (t .style) (t .year)
-    ∷ Date unless isDate (t .style) (t .year) m d
-    ∷ Span unless inSpan (t .style) (dayNumber (t .style) (t .year) m d)
+-- the tests of a date
+abbrev pub dateTests : Calendar → ℕ → ℕ → ℕ → List Test
+dateTests c y m d =
+    Year unless served c y
+    ∷ Date unless isDate c y m d
+    ∷ Span unless inSpan c (dayNumber c y m d)
     ∷ []
 
--- the day of a date of the named year t, refused by 4, 5 or 6
-unfoldable pub dayInYear : NamedYear → ℕ → ℕ → DayAnswer
-dayInYear t m d = checked NoDay (Day (dayNumber (t .style) (t .year) m d)) (dateTests t m d)
+-- the day of a date, refused by 4, 5 or 6
+unfoldable pub dayInCalendar : Calendar → ℕ → ℕ → ℕ → DayAnswer
+dayInCalendar c y m d = checked NoDay (Day (dayNumber c y m d)) (dateTests c y m d)
+
+-- the day of a date of the named year t
+abbrev pub dayInYear : NamedYear → ℕ → ℕ → DayAnswer
+dayInYear t m d = dayInCalendar (datesBy (t .style)) (t .year) m d
 
 -- date to day in the style with the number k: refused by 1, and else as in the style
 abbrev pub dayOfDate : ℕ → ℕ → ℕ → ℕ → DayAnswer
 dayOfDate k y m d = inStyle NoDay (λ s. dayInYear (named s y) m d) (styleOf k)
 
 -- a date whose day is n
-abbrev pub IsDateOf : Style → ℕ → DateAnswer → Type 0
-IsDateOf s n (On y m d) = dayInYear (named s y) m d ≡ Day n
-IsDateOf s n (NoDate x) = ⊥
+abbrev pub IsDateOf : Calendar → ℕ → DateAnswer → Type 0
+IsDateOf c n (On y m d) = dayInCalendar c y m d ≡ Day n
+IsDateOf c n (NoDate x) = ⊥
 
 -- what the date of a day may be: refused by 6, and else the date whose day it is
+abbrev pub IsDateInCalendar : Calendar → ℕ → DateAnswer → Type 0
+IsDateInCalendar c n r = checked (λ x. r ≡ NoDate x) (IsDateOf c n r) (spanTests c n)
+
 abbrev pub IsDateInStyle : Style → ℕ → DateAnswer → Type 0
-IsDateInStyle s n r = checked (λ x. r ≡ NoDate x) (IsDateOf s n r) (spanTests s n)
+IsDateInStyle s n r = IsDateInCalendar (datesBy s) n r
 
 -- the refusal's number, or 0 where there is none
 abbrev pub dateRefusal : DateAnswer → ℕ
@@ -86,8 +94,8 @@ abbrev pub IsDateOfDay : ℕ → ℕ → DateAnswer → Type 0
 IsDateOfDay k n r = inStyle (λ x. r ≡ NoDate x) (λ s. IsDateInStyle s n r) (styleOf k)
 
 -- the next date of the calendar: the next day of the month, or the first of the next month, or of the next year
-abbrev pub nextDate : Style → ℕ → ℕ → ℕ → DateAnswer
-nextDate s y m d =
-    cond (ltb d (monthLength (leap s y) m)) (On y m (d + 1))
+abbrev pub nextDate : Calendar → ℕ → ℕ → ℕ → DateAnswer
+nextDate c y m d =
+    cond (ltb d (monthLength (leap c y) m)) (On y m (d + 1))
     (cond (ltb m 12) (On y (m + 1) 1)
     (On (y + 1) 1 1))

@@ -1,4 +1,4 @@
--- The days that a style may name.
+-- The days that a style may name, by the calendar that its dates go by.
 use mathlib.Core.Bool.{Bool}
 use mathlib.Core.List.{List, [], _∷_}
 use Prim.Native.Nat.{ℕ}
@@ -7,16 +7,16 @@ use Rattle.calendar.specs.Refusal.{refusalNumber, Test, _unless_, checke
 use Rattle.calendar.specs.declared.refusal.Refusal.the-variants.{Span}
 use Rattle.calendar.specs.declared.span.DayAnswer.the-variants.{Day, NoDay}
 use Rattle.calendar.specs.declared.span.DayAnswer.{DayAnswer}
-use Rattle.calendar.specs.declared.style.Style.the-variants.{Julian, Gregorian}
-use Rattle.calendar.specs.declared.style.Style.{Style}
+use Rattle.calendar.specs.declared.style.Calendar.the-variants.{Julian, Gregorian}
+use Rattle.calendar.specs.declared.style.Calendar.{Calendar}
 
 -- "First day" of the span
-abbrev pub firstDay : Style → ℕ
+abbrev pub firstDay : Calendar → ℕ
 firstDay Julian = 1721424
 firstDay Gregorian = 2299161
 
 -- "Last day (31 December 9999)" of the span
-abbrev pub lastDay : Style → ℕ
+abbrev pub lastDay : Calendar → ℕ
 lastDay Julian = 5373557
 lastDay Gregorian = 5373484
 
@@ -29,16 +29,16 @@ abbrev pub latest : ℕ
 latest = lastDay Julian
 
 -- "These are the style's span."
-unfoldable pub inSpan : Style → ℕ → Bool
-inSpan s n = between (firstDay s) n (lastDay s)
+unfoldable pub inSpan : Calendar → ℕ → Bool
+inSpan c n = between (firstDay c) n (lastDay c)
 
 -- refusal 6: "a day outside the style's span"
-abbrev pub spanTests : Style → ℕ → List Test
-spanTests s n = Span unless inSpan s n ∷ []
+abbrev pub spanTests : Calendar → ℕ → List Test
+spanTests c n = Span unless inSpan c n ∷ []
 
--- the day n where the style's span has it, and else the refusal
-unfoldable pub within : Style → ℕ → DayAnswer
-within s n = checked NoDay (Day n) (spanTests s n)
+-- the day n where the span has it, and else the refusal
+unfoldable pub within : Calendar → ℕ → DayAnswer
+within c n = checked NoDay (Day n) (spanTests c n)
 
 -- "a call for a day answers one number, the day or the refusal"
 abbrev pub dayOrRefusal : DayAnswer → ℕ

@@ -1,4 +1,4 @@
--- The two styles.
+-- The styles, each with two sides: the calendar that its dates go by, and the calendar that its Easter goes by.
 use mathlib.Core.Bool.{Bool, true, false, cond}
 use mathlib.Core.List.{List, [], _∷_}
 use Prim.Native.Char.{code}
@@ -7,31 +7,52 @@ use lib.Dec.{eqb}
 use Rattle.calendar.specs.Refusal.{refusalNumber, Test, _unless_}
 use Rattle.calendar.specs.declared.refusal.Refusal.the-variants.{Name}
 use Rattle.calendar.specs.declared.refusal.Refusal.{Refusal}
-use Rattle.calendar.specs.declared.style.Style.the-variants.{Julian, Gregorian}
+use Rattle.calendar.specs.declared.style.Calendar.the-variants.{Julian, Gregorian}
+use Rattle.calendar.specs.declared.style.Calendar.{Calendar}
+use Rattle.calendar.specs.declared.style.Style.the-variants.{J, G}
 use Rattle.calendar.specs.declared.style.Style.{Style}
 use Rattle.calendar.specs.declared.style.StyleAnswer.the-variants.{Known, NoStyle}
 use Rattle.calendar.specs.declared.style.StyleAnswer.{StyleAnswer}
 
 -- "J (Julian, number 1) and G (Gregorian, number 2)"
 abbrev pub styleNumber : Style → ℕ
-styleNumber Julian = 1
-styleNumber Gregorian = 2
+styleNumber J = 1
+styleNumber G = 2
 
 -- the byte of the style's letter
 abbrev pub styleLetter : Style → ℕ
-styleLetter Julian = code "J"
-styleLetter Gregorian = code "G"
+styleLetter J = code "J"
+styleLetter G = code "G"
 
--- the style by whether it is the Gregorian one
-abbrev pub styleBy : Bool → Style
-styleBy true = Gregorian
-styleBy false = Julian
+-- the calendar that the style's dates go by
+abbrev pub datesBy : Style → Calendar
+datesBy J = Julian
+datesBy G = Gregorian
+
+-- the calendar that its Easter goes by
+abbrev pub easterBy : Style → Calendar
+easterBy J = Julian
+easterBy G = Gregorian
+
+-- the style that goes wholly by one calendar
+abbrev pub wholly : Calendar → Style
+wholly Julian = J
+wholly Gregorian = G
+
+-- the calendar by whether it is the Gregorian one
+abbrev pub calendarBy : Bool → Calendar
+calendarBy true = Gregorian
+calendarBy false = Julian
+
+-- the style by its number; J for any other number
+abbrev pub styleBy : ℕ → Style
+styleBy n = cond (eqb n (styleNumber G)) G J
 
 -- refusal 1: "a style .. number given to a public call is not in its list"
 unfoldable pub styleOf : ℕ → StyleAnswer
 styleOf n =
-    cond (eqb n (styleNumber Julian)) (Known Julian)
-    (cond (eqb n (styleNumber Gregorian)) (Known Gregorian)
+    cond (eqb n (styleNumber J)) (Known J)
+    (cond (eqb n (styleNumber G)) (Known G)
     (NoStyle Name))
 
 -- the refusal's number, or 0 where there is none

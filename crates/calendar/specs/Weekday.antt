@@ -5,7 +5,7 @@ use lib.Dec.{eqb}
 use Rattle.calendar.specs.Refusal.{refusalNumber, checked}
 use Rattle.calendar.specs.Search.{firstOf}
 use Rattle.calendar.specs.Span.{spanTests}
-use Rattle.calendar.specs.Style.{styleOf, inStyle}
+use Rattle.calendar.specs.Style.{datesBy, styleOf, inStyle}
 use Rattle.calendar.specs.declared.style.Style.{Style}
 use Rattle.calendar.specs.declared.weekday.Side.the-variants.{After, Before}
 use Rattle.calendar.specs.declared.weekday.Side.{Side}
@@ -23,7 +23,7 @@ sunday = 7
 
 -- "The call takes a style and a day of that style's span.": refused by 6
 abbrev pub weekdayInStyle : Style → ℕ → WeekdayAnswer
-weekdayInStyle s n = checked NoWeekday (Weekday (weekday n)) (spanTests s n)
+weekdayInStyle s n = checked NoWeekday (Weekday (weekday n)) (spanTests (datesBy s) n)
 
 -- weekday in the style with the number k: refused by 1, and else as in the style
 abbrev pub weekdayOfDay : ℕ → ℕ → WeekdayAnswer

@@ -4,10 +4,12 @@ use crate::refusal::Refusal;
 use crate::span::DayAnswer;
 use crate::span::day_within;
 use crate::span::is_in_span;
+use crate::style::Calendar;
 use crate::style::Style;
 use crate::style::StyleAnswer;
+use crate::style::calendar_by;
+use crate::style::dates_by;
 use crate::style::is_gregorian;
-use crate::style::style_by;
 use crate::style::style_of;
 use crate::year::NamedYear;
 use crate::year::is_leap;
@@ -17,9 +19,9 @@ use crate::year::year_at;
 ghost use mathlib.Core.Path.{_≡_};
 ghost use mathlib.Core.Bool.{true, false};
 ghost use Prim.Native.Nat.{pred, _≤_, _<_};
-ghost use Rattle.calendar.specs.Year.{named, served};
-ghost use Rattle.calendar.specs.Style.{styleBy};
-ghost use Rattle.calendar.specs.Date.{monthLength, daysOfMonths, MonthOf, isDate, dayNumber, dayInYear, dayOfDate, IsDateInStyle, IsDateOfDay};
+ghost use Rattle.calendar.specs.Year.{served};
+ghost use Rattle.calendar.specs.Style.{calendarBy};
+ghost use Rattle.calendar.specs.Date.{monthLength, daysOfMonths, MonthOf, isDate, dayNumber, dayInCalendar, dayInYear, dayOfDate, IsDateInCalendar, IsDateInStyle, IsDateOfDay};
 
 // A date, or why there is none.
 pub enum DateAnswer {
@@ -81,8 +83,8 @@ fn days_before(leap_year: bool, month: u64) -> u64
 }
 
 // Whether a year has a month and a day of that month.
-fn is_date(named: NamedYear, month: u64, day: u64) -> bool
-    ensures { λ r. ⌜ r ≡ isDate (named .style) (named .year) month day ⌝ }
+fn is_date(calendar: Calendar, year: u64, month: u64, day: u64) -> bool
+    ensures { λ r. ⌜ r ≡ isDate calendar year month day ⌝ }
 {
     if !is_between(1, month, 12) {
         return false;
@@ -91,37 +93,39 @@ fn is_date(named: NamedYear, month: u64, day: u64) -> bool
     if is_between(1, day, 28) {
         return true;
     }
-    is_between(1, day, month_length(is_leap(named), month))
+    is_between(1, day, month_length(is_leap(calendar, year), month))
 }
 
 // The day number of a date.
-fn day_number(named: NamedYear, month: u64, day: u64) -> u64
-    requires { ⌜ (served (named .style) (named .year) ≡ true) × (isDate (named .style) (named .year) month day ≡ true) ⌝ }
-    ensures { λ r. ⌜ r ≡ dayNumber (named .style) (named .year) month day ⌝ }
+fn day_number(calendar: Calendar, year: u64, month: u64, day: u64) -> u64
+    requires { ⌜ (served calendar year ≡ true) × (isDate calendar year month day ≡ true) ⌝ }
+    ensures { λ r. ⌜ r ≡ dayNumber calendar year month day ⌝ }
 {
-    let style = named.style;
     let behind_february = if month > 2 { 1 } else { 0 };
-    let start = new_year(NamedYear {
-        style,
-        year: named.year + behind_february,
-    });
+    let start = new_year(calendar, year + behind_february);
     // The quotient is the days before the month if February had 30, and a year 367: behind February a day counts back from the next new year.
     start + (979 * month - 966) / 32 + (day - 1) - 367 * behind_february
 }
 
-// The day of a date of a year; its style comes as a truth value, which is handed on in a register and not in memory.
+// The day of a date; its calendar comes as a truth value, which is handed on in a register and not in memory.
 fn day_by(gregorian: bool, year: u64, month: u64, day: u64) -> DayAnswer
-    ensures { λ r. ⌜ r ≡ dayInYear (named (styleBy gregorian) year) month day ⌝ }
+    ensures { λ r. ⌜ r ≡ dayInCalendar (calendarBy gregorian) year month day ⌝ }
 {
-    let style = style_by(gregorian);
-    let named = NamedYear { style, year };
-    if !is_served(named) {
+    let calendar = calendar_by(gregorian);
+    if !is_served(calendar, year) {
         return DayAnswer::NoDay(Refusal::Year);
     }
-    if !is_date(named, month, day) {
+    if !is_date(calendar, year, month, day) {
         return DayAnswer::NoDay(Refusal::Date);
     }
-    day_within(style, day_number(named, month, day))
+    day_within(calendar, day_number(calendar, year, month, day))
+}
+
+// The day of a date of a calendar.
+pub fn day_in_calendar(calendar: Calendar, year: u64, month: u64, day: u64) -> DayAnswer
+    ensures { λ r. ⌜ r ≡ dayInCalendar calendar year month day ⌝ }
+{
+    day_by(is_gregorian(calendar), year, month, day)
 }
 
 // The day of a date of a named year.
@@ -129,7 +133,7 @@ pub fn day_in_year(named: NamedYear, month: u64, day: u64) -> DayAnswer
     ensures { λ r. ⌜ r ≡ dayInYear named month day ⌝ }
 {
     let style = named.style;
-    day_by(is_gregorian(style), named.year, month, day)
+    day_in_calendar(dates_by(style), named.year, month, day)
 }
 
 // Date to day: refused by 1, 4, 5 or 6.
@@ -137,7 +141,7 @@ pub fn day_of_date(style: u64, year: u64, month: u64, day: u64) -> DayAnswer
     ensures { λ r. ⌜ r ≡ dayOfDate style year month day ⌝ }
 {
     match style_of(style) {
-        StyleAnswer::Known(known) => day_by(is_gregorian(known), year, month, day),
+        StyleAnswer::Known(known) => day_in_calendar(dates_by(known), year, month, day),
         StyleAnswer::NoStyle(refusal) => DayAnswer::NoDay(refusal),
     }
 }
@@ -158,23 +162,29 @@ fn month_at(leap_year: bool, day_of_year: u64) -> u64
     estimate
 }
 
-// The date of a day of a style.
-pub fn date_in_style(style: Style, day: u64) -> DateAnswer
-    ensures { λ r. ⌜ IsDateInStyle style day r ⌝ }
+// The date of a day of a calendar.
+fn date_in_calendar(calendar: Calendar, day: u64) -> DateAnswer
+    ensures { λ r. ⌜ IsDateInCalendar calendar day r ⌝ }
 {
-    if !is_in_span(style, day) {
+    if !is_in_span(calendar, day) {
         return DateAnswer::NoDate(Refusal::Span);
     }
-    let year = year_at(style, day);
-    let named = NamedYear { style, year };
-    let day_of_year = day - new_year(named);
-    let leap_year = is_leap(named);
+    let year = year_at(calendar, day);
+    let day_of_year = day - new_year(calendar, year);
+    let leap_year = is_leap(calendar, year);
     let month = month_at(leap_year, day_of_year);
     DateAnswer::On {
         year,
         month,
         day: day_of_year - days_before(leap_year, month) + 1,
     }
+}
+
+// The date of a day of a style.
+pub fn date_in_style(style: Style, day: u64) -> DateAnswer
+    ensures { λ r. ⌜ IsDateInStyle style day r ⌝ }
+{
+    date_in_calendar(dates_by(style), day)
 }
 
 // Day to date: refused by 1 or 6.

@@ -1,8 +1,8 @@
-// The days that a style may name.
+// The days that a style may name, by the calendar that its dates go by.
 use crate::range::is_between;
 use crate::refusal::Refusal;
 use crate::refusal::refusal_number;
-use crate::style::Style;
+use crate::style::Calendar;
 ghost use mathlib.Core.Path.{_≡_};
 ghost use Rattle.calendar.specs.Span.{firstDay, lastDay, inSpan, within, dayOrRefusal};
 
@@ -12,38 +12,38 @@ pub enum DayAnswer {
     NoDay(Refusal),
 }
 
-// The first day of the style's span.
-fn first_day(style: Style) -> u64
-    ensures { λ r. ⌜ r ≡ firstDay style ⌝ }
+// The first day of the span.
+fn first_day(calendar: Calendar) -> u64
+    ensures { λ r. ⌜ r ≡ firstDay calendar ⌝ }
 {
-    match style {
-        Style::Julian => 1721424,
-        Style::Gregorian => 2299161,
+    match calendar {
+        Calendar::Julian => 1721424,
+        Calendar::Gregorian => 2299161,
     }
 }
 
-// The last day of the style's span.
-fn last_day(style: Style) -> u64
-    ensures { λ r. ⌜ r ≡ lastDay style ⌝ }
+// The last day of the span.
+fn last_day(calendar: Calendar) -> u64
+    ensures { λ r. ⌜ r ≡ lastDay calendar ⌝ }
 {
-    match style {
-        Style::Julian => 5373557,
-        Style::Gregorian => 5373484,
+    match calendar {
+        Calendar::Julian => 5373557,
+        Calendar::Gregorian => 5373484,
     }
 }
 
-// Whether a day lies in the style's span.
-pub(crate) fn is_in_span(style: Style, day: u64) -> bool
-    ensures { λ r. ⌜ r ≡ inSpan style day ⌝ }
+// Whether a day lies in the span.
+pub(crate) fn is_in_span(calendar: Calendar, day: u64) -> bool
+    ensures { λ r. ⌜ r ≡ inSpan calendar day ⌝ }
 {
-    is_between(first_day(style), day, last_day(style))
+    is_between(first_day(calendar), day, last_day(calendar))
 }
 
 // The day itself where the span has it.
-pub fn day_within(style: Style, day: u64) -> DayAnswer
-    ensures { λ r. ⌜ r ≡ within style day ⌝ }
+pub fn day_within(calendar: Calendar, day: u64) -> DayAnswer
+    ensures { λ r. ⌜ r ≡ within calendar day ⌝ }
 {
-    if !is_in_span(style, day) {
+    if !is_in_span(calendar, day) {
         return DayAnswer::NoDay(Refusal::Span);
     }
     DayAnswer::Day(day as u32)

@@ -1,13 +1,21 @@
-// The two styles of dating.
+// The styles of dating, each with two sides: the calendar that its dates go by, and the calendar that its Easter goes by.
 use crate::range::is_between;
 use crate::refusal::Refusal;
 ghost use mathlib.Core.Path.{_≡_};
-ghost use Rattle.calendar.specs.Style.{styleLetter, styleBy, styleOf};
+ghost use Rattle.calendar.specs.Style.{styleNumber, styleLetter, datesBy, easterBy, calendarBy, styleBy, styleOf};
 
-// A calendar by which dates are written.
-pub enum Style {
+// A calendar.
+pub enum Calendar {
     Julian,
     Gregorian,
+}
+
+// A style of dating.
+pub enum Style {
+    // The Julian calendar.
+    J,
+    // The Gregorian calendar.
+    G,
 }
 
 // A style, or why there is none.
@@ -23,27 +31,67 @@ pub fn style_of(number: u64) -> StyleAnswer
     if !is_between(1, number, 2) {
         return StyleAnswer::NoStyle(Refusal::Name);
     }
-    StyleAnswer::Known(style_by(number == 2))
+    StyleAnswer::Known(style_by(number))
 }
 
-// Whether a style is the Gregorian one.
-pub fn is_gregorian(style: Style) -> bool
-    ensures { λ r. ⌜ styleBy r ≡ style ⌝ }
+// The style by its number; J for any other number.
+pub fn style_by(number: u64) -> Style
+    ensures { λ r. ⌜ r ≡ styleBy number ⌝ }
+{
+    if number == 2 {
+        return Style::G;
+    }
+    Style::J
+}
+
+// The number of a style.
+pub fn style_number(style: Style) -> u64
+    ensures { λ r. ⌜ r ≡ styleNumber style ⌝ }
 {
     match style {
-        Style::Julian => false,
-        Style::Gregorian => true,
+        Style::J => 1,
+        Style::G => 2,
     }
 }
 
-// The style by whether it is the Gregorian one.
-pub fn style_by(gregorian: bool) -> Style
-    ensures { λ r. ⌜ r ≡ styleBy gregorian ⌝ }
+// The calendar that a style's dates go by.
+pub fn dates_by(style: Style) -> Calendar
+    ensures { λ r. ⌜ r ≡ datesBy style ⌝ }
+{
+    match style {
+        Style::J => Calendar::Julian,
+        Style::G => Calendar::Gregorian,
+    }
+}
+
+// The calendar that a style's Easter goes by.
+pub fn easter_by(style: Style) -> Calendar
+    ensures { λ r. ⌜ r ≡ easterBy style ⌝ }
+{
+    match style {
+        Style::J => Calendar::Julian,
+        Style::G => Calendar::Gregorian,
+    }
+}
+
+// Whether a calendar is the Gregorian one.
+pub(crate) fn is_gregorian(calendar: Calendar) -> bool
+    ensures { λ r. ⌜ calendarBy r ≡ calendar ⌝ }
+{
+    match calendar {
+        Calendar::Julian => false,
+        Calendar::Gregorian => true,
+    }
+}
+
+// The calendar by whether it is the Gregorian one.
+pub(crate) fn calendar_by(gregorian: bool) -> Calendar
+    ensures { λ r. ⌜ r ≡ calendarBy gregorian ⌝ }
 {
     if gregorian {
-        return Style::Gregorian;
+        return Calendar::Gregorian;
     }
-    Style::Julian
+    Calendar::Julian
 }
 
 // The byte of a style's letter.
@@ -51,7 +99,7 @@ pub fn style_letter(style: Style) -> u8
     ensures { λ r. ⌜ r ≡ styleLetter style ⌝ }
 {
     match style {
-        Style::Julian => b'J',
-        Style::Gregorian => b'G',
+        Style::J => b'J',
+        Style::G => b'G',
     }
 }

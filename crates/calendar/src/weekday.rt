@@ -5,6 +5,7 @@ use crate::refusal::refusal_number;
 use crate::span::is_in_span;
 use crate::style::Style;
 use crate::style::StyleAnswer;
+use crate::style::dates_by;
 use crate::style::style_of;
 ghost use mathlib.Core.Path.{_≡_};
 ghost use Rattle.calendar.specs.Steps.{latestOfSeven};
@@ -20,7 +21,7 @@ pub enum WeekdayAnswer {
 pub fn weekday_in_style(style: Style, day: u64) -> WeekdayAnswer
     ensures { λ r. ⌜ r ≡ weekdayInStyle style day ⌝ }
 {
-    if !is_in_span(style, day) {
+    if !is_in_span(dates_by(style), day) {
         return WeekdayAnswer::NoWeekday(Refusal::Span);
     }
     WeekdayAnswer::Weekday((day % 7 + 1) as u32)

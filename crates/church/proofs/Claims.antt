@@ -1,6 +1,6 @@
--- What holds of the year sheet and the feasts beyond the contracts, for all years from 1 on in both styles.
+-- What holds of the year sheet and the feasts beyond the contracts, for all years from 1 on of both calendars.
 use mathlib.Core.Bool.{true, false}
-use mathlib.Core.List.{[], _∷_}
+use mathlib.Core.List.{List, [], _∷_}
 use mathlib.Core.Logic.{_↔_}
 use mathlib.Core.Path.{_≡_, refl, sym, _∙_, ap}
 use Prim.Native.Nat.{ℕ, _+_, _≤_, _<_, _∣_}
@@ -28,7 +28,7 @@ use Rattle.calendar.specs.Range.{between}
 use Rattle.calendar.specs.Refusal.{Holds, Lowest}
 use Rattle.calendar.specs.Return.{ReturnsAfter, DiffersAfter, weekdayPeriod}
 use Rattle.calendar.specs.Span.{earliest, dayOrRefusal}
-use Rattle.calendar.specs.Style.{styleNumber, styleOf, byNumber}
+use Rattle.calendar.specs.Style.{styleNumber, datesBy, easterBy, wholly, styleOf, byNumber}
 use Rattle.calendar.specs.Weekday.{weekday, sunday}
 use Rattle.calendar.specs.Year.{named, leap}
 use Rattle.church.specs.Arithmetic.{arithmeticLimit}
@@ -40,7 +40,8 @@ use Rattle.church.specs.Letter.{letterOf, Part, first, second, inPart, S
 use Rattle.church.specs.Period.{period, shorter, SameLetters, TablesReturn}
 use Rattle.church.specs.Sheet.{IsSheetOf, IsSheetOfYear, sheetRefusal, yes, sheetNumbers}
 use Rattle.calendar.specs.declared.span.DayAnswer.the-variants.{Day, NoDay}
-use Rattle.calendar.specs.declared.style.Style.the-variants.{Gregorian}
+use Rattle.calendar.specs.declared.style.Calendar.the-variants.{Gregorian}
+use Rattle.calendar.specs.declared.style.Calendar.{Calendar}
 use Rattle.calendar.specs.declared.style.Style.{Style}
 use Rattle.calendar.specs.declared.year.NamedYear.{NamedYear}
 use Rattle.church.specs.declared.sheet.SheetAnswer.the-variants.{Sheet, NoSheet}
@@ -52,9 +53,9 @@ one-answer k y r r′ h h′ = both-in (styleOf k) (λ s. one-answer-in-year (na
 
 -- "The lowest number that holds is given, and none otherwise": the sheet and a feast are refused by n exactly when it is that.
 pub sheet-refused : (k y n : ℕ) (r : SheetAnswer) → 1 ≤ n → IsSheetOfYear k y r
-    → (sheetRefusal r ≡ n) ↔ Lowest (Holds (byNumber (λ s. easterTests (named s y)) k)) n
+    → (sheetRefusal r ≡ n) ↔ Lowest (Holds (byNumber (λ s. easterTests (datesBy s) y) k)) n
 sheet-refused k y n r some h =
-    given-of-any (λ x. r ≡ NoSheet x) (λ s. IsSheetOf (named s y) r) (sheetRefusal r) (λ x. ap sheetRefusal) n (λ s. easterTests (named s y)) (λ s. tt)
+    given-of-any (λ x. r ≡ NoSheet x) (λ s. IsSheetOf (named s y) r) (sheetRefusal r) (λ x. ap sheetRefusal) n (λ s. easterTests (datesBy s) y) (λ s. tt)
     (λ s. is-sheet (named s y) r) k h
   where
     is-sheet : (t : NamedYear) (r : SheetAnswer) → IsSheetOf t r → sheetRefusal r ≡ n → ⊥
@@ -66,7 +67,7 @@ pub feast-refused : (k f y n : ℕ) → n < earliest
 unfolding feastInYear
 feast-refused k f y n low =
     given-by-number dayOrRefusal NoDay (λ x. refl) n (λ s. Day (ruleNumber (rule f) s y)) (λ s. feastTests (named s y) f) (λ s. tt)
-    (λ s all e. omega (arith, span-small s (ruleNumber (rule f) s y) (all .1 .1 .1 .0))) k
+    (λ s all e. omega (arith, span-small (datesBy s) (ruleNumber (rule f) s y) (all .1 .1 .1 .0))) k
 
 -- A G epact is the remainder by 30 of its sum, also where that is negative.
 pub epact-remainder : (y : ℕ)
@@ -75,47 +76,50 @@ unfolding epact
 epact-remainder y = (epact-laws.epact-small Gregorian y, epact-laws.by30-rest (gregorianSum (golden y) (hundreds y)))
 
 -- The walk finds a day of the column at which the year's epact stands.
-pub luna-found : (s : Style) (y : ℕ) → (8 ≤ luna s y) × (luna s y ≤ 36) × (stands s (epact s y) (arabic s y) (luna s y) ≡ true)
+pub luna-found : (c : Calendar) (y : ℕ) → (8 ≤ luna c y) × (luna c y ≤ 36) × (stands c (epact c y) (arabic c y) (luna c y) ≡ true)
 unfolding luna
-luna-found s y = (walked s y .low, walked s y .high, walked s y .there)
+luna-found c y = (walked c y .low, walked c y .high, walked c y .there)
 
 -- The year's epact stands at one day only.
-pub one-luna : (s : Style) (y d : ℕ) → stands s (epact s y) (arabic s y) d ≡ true → d ≡ luna s y
+pub one-luna : (c : Calendar) (y d : ℕ) → stands c (epact c y) (arabic c y) d ≡ true → d ≡ luna c y
 unfolding luna
-one-luna s y d h = walked s y .once d h
+one-luna c y d h = walked c y .once d h
 
 -- The arithmetic and the month column give one limit; what the arithmetic brings into 21 to 50 differs by thirties (`brought-by-thirties`).
-pub one-limit : (s : Style) (y : ℕ) → arithmeticLimit s y ≡ limit s y
+pub one-limit : (c : Calendar) (y : ℕ) → arithmeticLimit c y ≡ limit c y
 one-limit = arithmetic-laws.one-limit
 
--- The key lies from 1 to 35, and counts from 21 March to Easter.
-pub key-range : (s : Style) (y : ℕ) → (1 ≤ key s y) × (key s y ≤ 35) × (march s y 21 + key s y ≡ easter s y)
-key-range s y =
-    let f = easter-laws.easter-facts s y in
-    (omega (arith, f), omega (arith, f), f .by-key)
+-- In J and in G the key lies from 1 to 35, and counts from 21 March to Easter.
+pub key-range : (c : Calendar) (y : ℕ)
+    → (1 ≤ key (wholly c) y) × (key (wholly c) y ≤ 35) × (march c y 21 + key (wholly c) y ≡ easter c y)
+key-range = easter-laws.key-range
 
 -- Easter is a Sunday, later than the limit by at most seven days.
-pub easter-sunday : (s : Style) (y : ℕ)
-    → (weekday (easter s y) ≡ sunday) × (march s y (limit s y) < easter s y) × (easter s y ≤ march s y (limit s y) + 7)
-easter-sunday s y =
-    let f = easter-laws.easter-facts s y in
+pub easter-sunday : (c : Calendar) (y : ℕ)
+    → (weekday (easter c y) ≡ sunday) × (march c y (limit c y) < easter c y) × (easter c y ≤ march c y (limit c y) + 7)
+easter-sunday c y =
+    let f = easter-laws.easter-facts c y in
     (f .falls, f .later, f .week)
 
 -- Each part of a year has one Sunday letter.
-pub has-letter : (s : Style) (y : ℕ) (p : Part) → (l : ℕ) × SundayLetter s y p l
-has-letter s y p = (letter-laws.closed p (leap s y) (march s y 21), letter-laws.sundays s y p)
+pub has-letter : (c : Calendar) (y : ℕ) (p : Part) → (l : ℕ) × SundayLetter c y p l
+has-letter c y p = (letter-laws.closed p (leap c y) (march c y 21), letter-laws.sundays c y p)
 
-pub one-letter : (s : Style) (y : ℕ) (p : Part) (l l′ : ℕ) → SundayLetter s y p l → SundayLetter s y p l′ → l ≡ l′
-one-letter s y p l l′ h h′ = letter-laws.one-letter s y p l h ∙ sym (letter-laws.one-letter s y p l′ h′)
+pub one-letter : (c : Calendar) (y : ℕ) (p : Part) (l l′ : ℕ) → SundayLetter c y p l → SundayLetter c y p l′ → l ≡ l′
+one-letter c y p l l′ h h′ = letter-laws.one-letter c y p l h ∙ sym (letter-laws.one-letter c y p l′ h′)
 
--- A sheet's numbers are those of its year.
-pub sheet-numbers : (s : Style) (y l l′ : ℕ) (r : SheetAnswer) → hasEaster s y ≡ true → IsSheetOfYear (styleNumber s) y r
-    → SundayLetter s y first l → SundayLetter s y second l′
-    → sheetNumbers r ≡ yes (leap s y) ∷ golden y ∷ epact s y ∷ yes (arabic s y) ∷ l ∷ l′ ∷ limit s y ∷ key s y ∷ easter s y ∷ []
+-- A sheet's numbers are those of its year, with l and l′ for its Sunday letters.
+abbrev pub numbersOf : Style → ℕ → ℕ → ℕ → List ℕ
+numbersOf s y l l′ =
+    let c = easterBy s in
+    yes (leap (datesBy s) y) ∷ golden y ∷ epact c y ∷ yes (arabic c y) ∷ l ∷ l′ ∷ limit c y ∷ key s y ∷ easter c y ∷ []
+
+pub sheet-numbers : (s : Style) (y l l′ : ℕ) (r : SheetAnswer) → hasEaster (datesBy s) y ≡ true → IsSheetOfYear (styleNumber s) y r
+    → SundayLetter (datesBy s) y first l → SundayLetter (datesBy s) y second l′ → sheetNumbers r ≡ numbersOf s y l l′
 sheet-numbers s y l l′ r has h f g = go r (rw (by-number s, has) at h)
   where
     go : (r : SheetAnswer) → IsSheetOf (named s y) r
-        → sheetNumbers r ≡ yes (leap s y) ∷ golden y ∷ epact s y ∷ yes (arabic s y) ∷ l ∷ l′ ∷ limit s y ∷ key s y ∷ easter s y ∷ []
+        → sheetNumbers r ≡ numbersOf s y l l′
     go (NoSheet x) k = absurd k
     go (Sheet q) k =
         rw (
@@ -126,29 +130,29 @@ sheet-numbers s y l l′ r has h f g = go r (rw (by-number s, has) at h)
           k .its-limit,
           k .its-key,
           k .its-easter,
-          one-letter s y first _ l (k .its-first) f,
-          one-letter s y second _ l′ (k .its-second) g,
+          one-letter (datesBy s) y first _ l (k .its-first) f,
+          one-letter (datesBy s) y second _ l′ (k .its-second) g,
         )
 
 -- Every Sunday of a part of the year bears its Sunday letter, and no other day does.
-pub letter-borne : (s : Style) (y : ℕ) (p : Part) (l m d : ℕ) → SundayLetter s y p l → isDate s y m d ≡ true → inPart p m d ≡ true
-    → (weekday (dayNumber s y m d) ≡ sunday) ↔ (letterOf m d ≡ l)
-letter-borne s y p l m d h is-date in-part =
-    let b = letter-laws.borne s y p m d is-date in-part in
-    let e = letter-laws.one-letter s y p l h in
+pub letter-borne : (c : Calendar) (y : ℕ) (p : Part) (l m d : ℕ) → SundayLetter c y p l → isDate c y m d ≡ true → inPart p m d ≡ true
+    → (weekday (dayNumber c y m d) ≡ sunday) ↔ (letterOf m d ≡ l)
+letter-borne c y p l m d h is-date in-part =
+    let b = letter-laws.borne c y p m d is-date in-part in
+    let e = letter-laws.one-letter c y p l h in
     (λ w. b .0 w ∙ sym e, λ w. b .1 (w ∙ e))
 
 -- "the same one twice in a common year"
-pub common-letters : (s : Style) (y l l′ : ℕ) → leap s y ≡ false → SundayLetter s y first l → SundayLetter s y second l′ → l ≡ l′
-common-letters s y l l′ common h h′ =
-    letter-laws.one-letter s y first l h ∙ rw common refl ∙ sym (letter-laws.one-letter s y second l′ h′)
+pub common-letters : (c : Calendar) (y l l′ : ℕ) → leap c y ≡ false → SundayLetter c y first l → SundayLetter c y second l′ → l ≡ l′
+common-letters c y l l′ common h h′ =
+    letter-laws.one-letter c y first l h ∙ rw common refl ∙ sym (letter-laws.one-letter c y second l′ h′)
 
 -- There are 48 feasts.
 pub forty-eight : length feasts ≡ 48
 forty-eight = refl
 
 -- In a year that has an Easter every feast has its day.
-pub feast-answered : (s : Style) (y f : ℕ) → hasEaster s y ≡ true → between 1 f 48 ≡ true
+pub feast-answered : (s : Style) (y f : ℕ) → hasEaster (datesBy s) y ≡ true → between 1 f 48 ≡ true
     → feastOfYear (styleNumber s) f y ≡ Day (ruleNumber (rule f) s y)
 feast-answered s y f h e = rw by-number (feast-laws.feast-answered s y f h e)
 
@@ -158,35 +162,35 @@ pub matthias : feastOf 27 ≡ "matthias" is onOrInLeapYears 24 2 25 2
 matthias = refl
 
 -- Advent is a Sunday from 27 November to 3 December, and the only one.
-pub advent-sunday : (s : Style) (y : ℕ)
-    → (weekday (adventSunday s y) ≡ sunday) × (dayNumber s y 11 27 ≤ adventSunday s y) × (adventSunday s y ≤ dayNumber s y 12 3)
-advent-sunday s y = feast-laws.advent-week s y
+pub advent-sunday : (c : Calendar) (y : ℕ)
+    → (weekday (adventSunday c y) ≡ sunday) × (dayNumber c y 11 27 ≤ adventSunday c y) × (adventSunday c y ≤ dayNumber c y 12 3)
+advent-sunday c y = feast-laws.advent-week c y
 
-pub one-advent : (s : Style) (y n : ℕ) → dayNumber s y 11 27 ≤ n → n ≤ dayNumber s y 12 3 → weekday n ≡ sunday → n ≡ adventSunday s y
-one-advent s y n from to falls =
-    let a = advent-sunday s y in
-    let w = feast-laws.week-long s y in
+pub one-advent : (c : Calendar) (y n : ℕ) → dayNumber c y 11 27 ≤ n → n ≤ dayNumber c y 12 3 → weekday n ≡ sunday → n ≡ adventSunday c y
+one-advent c y n from to falls =
+    let a = advent-sunday c y in
+    let w = feast-laws.week-long c y in
     omega arith
 
 -- The Sunday letters return after 28 years in J and after 400 in G; they depend on whether the year is leap and on the weekday of 21 March alone
 -- (`same-letters`), which is told by a closed form (`equinox-weekday`).
-pub letters-return : (s : Style) (y : ℕ) → 1 ≤ y → SameLetters s s (y + weekdayPeriod s) y
+pub letters-return : (c : Calendar) (y : ℕ) → 1 ≤ y → SameLetters c c (y + weekdayPeriod c) y
 letters-return = period-laws.letters-return
 
 -- J keys return after 532 years, and G keys after 5,700,000; they depend on the limit and that weekday alone (`key-closed`, `same-key`), and the limit on the
 -- golden number and, in G, on the hundreds by their correction (`epact-closed`, `same-limit`).
-pub keys-return : (s : Style) → ReturnsAfter (period s) (key s)
+pub keys-return : (c : Calendar) → ReturnsAfter (period c) (key (wholly c))
 keys-return = period-laws.keys-return
 
 -- With them return whether the year is leap, golden number, epact and whether Arabic, Sunday letters, limit, and every feast's day of the year, which depends
 -- on the key and on whether the year is leap alone (`same-feasts`); each feast lies in its year (`feast-in-year`).
-pub tables-return : (s : Style) → TablesReturn s (period s)
+pub tables-return : (c : Calendar) → TablesReturn c (period c)
 tables-return = period-laws.tables-return
 
 -- J keys do not return after 266, 76 or 28 years throughout, nor do G keys after 2,850,000, 1,900,000, 1,140,000 or 300,000.
-pub keys-differ : (s : Style) → All (λ k. DiffersAfter k (key s)) (shorter s)
+pub keys-differ : (c : Calendar) → All (λ k. DiffersAfter k (key (wholly c))) (shorter c)
 keys-differ = period-laws.keys-differ
 
 -- Of the numbers from 1 on the period is the least: the keys return after k years throughout exactly where it divides k.
-pub key-period : (s : Style) (k : ℕ) → ReturnsAfter k (key s) ↔ (period s ∣ k)
+pub key-period : (c : Calendar) (k : ℕ) → ReturnsAfter k (key (wholly c)) ↔ (period c ∣ k)
 key-period = period-laws.key-period

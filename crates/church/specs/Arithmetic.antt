@@ -4,8 +4,8 @@ use Prim.Native.Nat.{ℕ, _+_, _-_, _*_, _/_, _%_}
 use lib.Dec.{eqb, ltb}
 use lib.IntN.{ℤ, pos, _+ℤ_, _-ℤ_}
 use Rattle.church.specs.Epact.{golden, hundreds, by30}
-use Rattle.calendar.specs.declared.style.Style.the-variants.{Julian, Gregorian}
-use Rattle.calendar.specs.declared.style.Style.{Style}
+use Rattle.calendar.specs.declared.style.Calendar.the-variants.{Julian, Gregorian}
+use Rattle.calendar.specs.declared.style.Calendar.{Calendar}
 
 -- "b is 11 times the golden number by 30"
 abbrev pub bOf : ℕ → ℕ
@@ -32,6 +32,6 @@ abbrev pub julianLimit : ℕ → ℕ
 julianLimit b = cond (ltb 26 b) (77 - b) (47 - b)
 
 -- the limit by arithmetic, a day of March run on past 31
-unfoldable pub arithmeticLimit : Style → ℕ → ℕ
+unfoldable pub arithmeticLimit : Calendar → ℕ → ℕ
 arithmeticLimit Julian y = julianLimit (bOf (golden y))
 arithmeticLimit Gregorian y = gregorianLimit (golden y) (zOf (hundreds y)) (bOf (golden y))

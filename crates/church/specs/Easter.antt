@@ -5,41 +5,42 @@ use Prim.Native.Nat.{ℕ, _+_, _-_}
 use lib.Dec.{eqb}
 use Rattle.calendar.specs.Date.{dayNumber}
 use Rattle.calendar.specs.Refusal.{Test, _unless_}
+use Rattle.calendar.specs.Style.{datesBy, easterBy}
 use Rattle.calendar.specs.Weekday.{sunday, firstWeekday}
 use Rattle.calendar.specs.Year.{served}
 use Rattle.church.specs.Column.{luna}
 use Rattle.calendar.specs.declared.refusal.Refusal.the-variants.{Year}
-use Rattle.calendar.specs.declared.style.Style.the-variants.{Julian, Gregorian}
+use Rattle.calendar.specs.declared.style.Calendar.the-variants.{Julian, Gregorian}
+use Rattle.calendar.specs.declared.style.Calendar.{Calendar}
 use Rattle.calendar.specs.declared.style.Style.{Style}
 use Rattle.calendar.specs.declared.weekday.Side.the-variants.{After}
 use Rattle.calendar.specs.declared.weekday.Start.the-variants.{Uncounted}
-use Rattle.calendar.specs.declared.year.NamedYear.{NamedYear}
 
 -- "The limit is thirteen days after Luna I.", a day of March run on past 31
-unfoldable pub limit : Style → ℕ → ℕ
-limit s y = luna s y + 13
+unfoldable pub limit : Calendar → ℕ → ℕ
+limit c y = luna c y + 13
 
 -- the day number of a day of March, run on past 31
-unfoldable pub march : Style → ℕ → ℕ → ℕ
-march s y d = dayNumber s y 3 d
+unfoldable pub march : Calendar → ℕ → ℕ → ℕ
+march c y d = dayNumber c y 3 d
 
 -- "Easter is the first Sunday strictly after the limit.": the limit does not count
-unfoldable pub easter : Style → ℕ → ℕ
-easter s y = firstWeekday Uncounted After sunday (march s y (limit s y))
+unfoldable pub easter : Calendar → ℕ → ℕ
+easter c y = firstWeekday Uncounted After sunday (march c y (limit c y))
 
--- "The key is Easter's distance from 21 March"
+-- "The key is Easter's distance from 21 March": Easter by the one side of the style, and 21 March by the other
 unfoldable pub key : Style → ℕ → ℕ
-key s y = easter s y - march s y 21
+key s y = easter (easterBy s) y - march (datesBy s) y 21
 
 -- the year in which G begins
-abbrev pub reformYear : Style → ℕ → Bool
+abbrev pub reformYear : Calendar → ℕ → Bool
 reformYear Julian y = false
 reformYear Gregorian y = eqb y 1582
 
--- the years whose sheet and Easter are answered: those that are served, but for "G 1582 for the year sheet or a feast hung on Easter"
-unfoldable pub hasEaster : Style → ℕ → Bool
-hasEaster s y = served s y && not (reformYear s y)
+-- the years whose sheet and Easter are answered, by the calendar of the dates: those that are served, but for "G 1582 for the year sheet or a feast hung on Easter"
+unfoldable pub hasEaster : Calendar → ℕ → Bool
+hasEaster c y = served c y && not (reformYear c y)
 
--- refusal 4 for the sheet and Easter of the named year t
-abbrev pub easterTests : NamedYear → List Test
-easterTests t = Year unless hasEaster (t .style) (t .year) ∷ []
+-- refusal 4 for the sheet and Easter
+abbrev pub easterTests : Calendar → ℕ → List Test
+easterTests c y = Year unless hasEaster c y ∷ []

@@ -1,10 +1,10 @@
--- Golden numbers and epacts, for all years from 1 on.
+-- Golden numbers, and epacts by the calendar that Easter goes by, for all years from 1 on.
 use mathlib.Core.Bool.{Bool, false, _&&_}
 use Prim.Native.Nat.{ℕ, _+_, _-_, _*_, _/_, _%_}
 use lib.Dec.{eqb, ltb}
 use lib.IntN.{ℤ, pos, negsuc, _+ℤ_, _-ℤ_}
-use Rattle.calendar.specs.declared.style.Style.the-variants.{Julian, Gregorian}
-use Rattle.calendar.specs.declared.style.Style.{Style}
+use Rattle.calendar.specs.declared.style.Calendar.the-variants.{Julian, Gregorian}
+use Rattle.calendar.specs.declared.style.Calendar.{Calendar}
 
 -- "the year's remainder by 19, plus 1"
 unfoldable pub golden : ℕ → ℕ
@@ -24,11 +24,11 @@ abbrev pub gregorianSum : ℕ → ℕ → ℤ
 gregorianSum g c = pos (11 * (g - 1) + 8 + c / 4) -ℤ pos c +ℤ pos ((8 * c + 13) / 25)
 
 -- "Julian epact: 11 times the golden number, remainder by 30"
-unfoldable pub epact : Style → ℕ → ℕ
+unfoldable pub epact : Calendar → ℕ → ℕ
 epact Julian y = 11 * golden y % 30
 epact Gregorian y = by30 (gregorianSum (golden y) (hundreds y))
 
 -- "25 is Arabic when the golden number is above 11, otherwise Roman XXV"; "no in J and for every other epact"
-unfoldable pub arabic : Style → ℕ → Bool
+unfoldable pub arabic : Calendar → ℕ → Bool
 arabic Julian y = false
 arabic Gregorian y = eqb (epact Gregorian y) 25 && ltb 11 (golden y)

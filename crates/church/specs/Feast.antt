@@ -9,13 +9,14 @@ use Rattle.calendar.specs.Date.{isDate, dayNumber}
 use Rattle.calendar.specs.Range.{between}
 use Rattle.calendar.specs.Refusal.{Test, _unless_, checked}
 use Rattle.calendar.specs.Span.{inSpan}
-use Rattle.calendar.specs.Style.{styleOf, inStyle}
+use Rattle.calendar.specs.Style.{datesBy, easterBy, styleOf, inStyle}
 use Rattle.calendar.specs.Weekday.{sunday, firstWeekday}
 use Rattle.calendar.specs.Year.{named, leap, served}
 use Rattle.church.specs.Easter.{easter, hasEaster}
 use Rattle.calendar.specs.declared.refusal.Refusal.the-variants.{Name, Year, Date, Span}
 use Rattle.calendar.specs.declared.span.DayAnswer.the-variants.{Day, NoDay}
 use Rattle.calendar.specs.declared.span.DayAnswer.{DayAnswer}
+use Rattle.calendar.specs.declared.style.Calendar.{Calendar}
 use Rattle.calendar.specs.declared.style.Style.{Style}
 use Rattle.calendar.specs.declared.weekday.Side.the-variants.{After}
 use Rattle.calendar.specs.declared.weekday.Start.the-variants.{Counted}
@@ -107,41 +108,41 @@ abbrev pub rule : ℕ → Rule
 rule f = ruleOf (feastOf f)
 
 -- "advent is the Sunday from 27 November to 3 December": the first Sunday on or after 27 November
-unfoldable pub adventSunday : Style → ℕ → ℕ
-adventSunday s y = firstWeekday Counted After sunday (dayNumber s y 11 27)
+unfoldable pub adventSunday : Calendar → ℕ → ℕ
+adventSunday c y = firstWeekday Counted After sunday (dayNumber c y 11 27)
 
 -- the day that lies so many days from the day n
 abbrev pub daysFrom : ℤ → ℕ → ℕ
 daysFrom (pos k) n = n + k
 daysFrom (negsuc k) n = n - suc k
 
--- the years that a style serves for a rule: all that it serves, but for "G 1582 for .. a feast hung on Easter"
-abbrev pub servedFor : Rule → Style → ℕ → Bool
-servedFor (hung z) s y = hasEaster s y
-servedFor (on d m) s y = served s y
-servedFor (onOrInLeapYears d m d′ m′) s y = served s y
-servedFor advent s y = served s y
+-- the years that are served for a rule, by the calendar of the dates: all that it serves, but for "G 1582 for .. a feast hung on Easter"
+abbrev pub servedFor : Rule → Calendar → ℕ → Bool
+servedFor (hung z) c y = hasEaster c y
+servedFor (on d m) c y = served c y
+servedFor (onOrInLeapYears d m d′ m′) c y = served c y
+servedFor advent c y = served c y
 
 -- whether a rule's date is one of the year: a day of a month may be none
-abbrev pub dateExists : Rule → Style → ℕ → Bool
-dateExists (hung z) s y = true
-dateExists (on d m) s y = isDate s y m d
-dateExists (onOrInLeapYears d m d′ m′) s y = cond (leap s y) (isDate s y m′ d′) (isDate s y m d)
-dateExists advent s y = true
+abbrev pub dateExists : Rule → Calendar → ℕ → Bool
+dateExists (hung z) c y = true
+dateExists (on d m) c y = isDate c y m d
+dateExists (onOrInLeapYears d m d′ m′) c y = cond (leap c y) (isDate c y m′ d′) (isDate c y m d)
+dateExists advent c y = true
 
--- the day number of a rule
+-- the day number of a rule: what hangs on Easter goes by the one side of the style, and all else by the other
 abbrev pub ruleNumber : Rule → Style → ℕ → ℕ
-ruleNumber (hung z) s y = daysFrom z (easter s y)
-ruleNumber (on d m) s y = dayNumber s y m d
-ruleNumber (onOrInLeapYears d m d′ m′) s y = cond (leap s y) (dayNumber s y m′ d′) (dayNumber s y m d)
-ruleNumber advent s y = adventSunday s y
+ruleNumber (hung z) s y = daysFrom z (easter (easterBy s) y)
+ruleNumber (on d m) s y = dayNumber (datesBy s) y m d
+ruleNumber (onOrInLeapYears d m d′ m′) s y = cond (leap (datesBy s) y) (dayNumber (datesBy s) y m′ d′) (dayNumber (datesBy s) y m d)
+ruleNumber advent s y = adventSunday (datesBy s) y
 
 -- the tests of a rule in the named year t
 abbrev pub ruleTests : NamedYear → Rule → List Test
 ruleTests t r =
-    Year unless servedFor r (t .style) (t .year)
-    ∷ Date unless dateExists r (t .style) (t .year)
-    ∷ Span unless inSpan (t .style) (ruleNumber r (t .style) (t .year))
+    Year unless servedFor r (datesBy (t .style)) (t .year)
+    ∷ Date unless dateExists r (datesBy (t .style)) (t .year)
+    ∷ Span unless inSpan (datesBy (t .style)) (ruleNumber r (t .style) (t .year))
     ∷ []
 
 -- the day of a rule in the named year t, refused by 4, 5 or 6

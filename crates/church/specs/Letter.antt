@@ -1,4 +1,4 @@
--- Sunday letters.
+-- Sunday letters, by the calendar that dates go by.
 use mathlib.Core.Bool.{Bool, true, false, _&&_, _||_}
 use mathlib.Core.Path.{_≡_}
 use Prim.Native.Char.{code}
@@ -6,7 +6,7 @@ use Prim.Native.Nat.{ℕ, pred, _+_, _%_}
 use lib.Dec.{eqb, leb}
 use Rattle.calendar.specs.Date.{daysOfMonths, isDate, dayNumber}
 use Rattle.calendar.specs.Weekday.{weekday, sunday}
-use Rattle.calendar.specs.declared.style.Style.{Style}
+use Rattle.calendar.specs.declared.style.Calendar.{Calendar}
 
 -- "1 January is A, then B to G over and over": the byte of the letter that comes n days after A
 abbrev pub letterAfter : ℕ → ℕ
@@ -26,6 +26,6 @@ inPart first m d = eqb m 1 || eqb m 2 && leb d 28
 inPart second m d = leb 3 m
 
 -- "The letter is the one on which Sundays fall.": l is the letter of every Sunday in that part of the year
-abbrev pub SundayLetter : Style → ℕ → Part → ℕ → Type 0
-SundayLetter s y p l =
-    (m d : ℕ) → isDate s y m d ≡ true → inPart p m d ≡ true → weekday (dayNumber s y m d) ≡ sunday → letterOf m d ≡ l
+abbrev pub SundayLetter : Calendar → ℕ → Part → ℕ → Type 0
+SundayLetter c y p l =
+    (m d : ℕ) → isDate c y m d ≡ true → inPart p m d ≡ true → weekday (dayNumber c y m d) ≡ sunday → letterOf m d ≡ l

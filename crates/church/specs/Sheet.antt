@@ -4,7 +4,7 @@ use mathlib.Core.List.{List, [], _∷_}
 use mathlib.Core.Path.{_≡_}
 use Prim.Native.Nat.{ℕ}
 use Rattle.calendar.specs.Refusal.{refusalNumber, checked}
-use Rattle.calendar.specs.Style.{styleOf, inStyle}
+use Rattle.calendar.specs.Style.{datesBy, easterBy, styleOf, inStyle}
 use Rattle.calendar.specs.Year.{named, leap}
 use Rattle.church.specs.Easter.{limit, easter, key, easterTests}
 use Rattle.church.specs.Epact.{golden, epact, arabic}
@@ -17,15 +17,15 @@ use Rattle.church.specs.declared.sheet.YearSheet.{YearSheet}
 
 -- "It holds: leap or not, golden number, epact, whether it is the Arabic 25 .., two Sunday letters .., the limit .., Easter as key and as day number."
 pub record IsSheet (s : Style) (y : ℕ) (r : YearSheet) : Type 0 where
-  pub its-leap : r .leap ≡ leap s y
+  pub its-leap : r .leap ≡ leap (datesBy s) y
   pub its-golden : r .golden ≡ golden y
-  pub its-epact : r .epact ≡ epact s y
-  pub its-arabic : r .arabic ≡ arabic s y
-  pub its-first : SundayLetter s y first (r .letters .first)
-  pub its-second : SundayLetter s y second (r .letters .second)
-  pub its-limit : r .limit ≡ limit s y
+  pub its-epact : r .epact ≡ epact (easterBy s) y
+  pub its-arabic : r .arabic ≡ arabic (easterBy s) y
+  pub its-first : SundayLetter (datesBy s) y first (r .letters .first)
+  pub its-second : SundayLetter (datesBy s) y second (r .letters .second)
+  pub its-limit : r .limit ≡ limit (easterBy s) y
   pub its-key : r .key ≡ key s y
-  pub its-easter : r .easter ≡ easter s y
+  pub its-easter : r .easter ≡ easter (easterBy s) y
 
 -- the sheet of the named year t
 abbrev pub IsSheetOf : NamedYear → SheetAnswer → Type 0
@@ -34,7 +34,7 @@ IsSheetOf t (NoSheet x) = ⊥
 
 -- what the sheet of the named year t may be: refused by 4, and else the year's sheet
 abbrev pub IsSheetInYear : NamedYear → SheetAnswer → Type 0
-IsSheetInYear t r = checked (λ x. r ≡ NoSheet x) (IsSheetOf t r) (easterTests t)
+IsSheetInYear t r = checked (λ x. r ≡ NoSheet x) (IsSheetOf t r) (easterTests (datesBy (t .style)) (t .year))
 
 -- the refusal's number, or 0 where there is none
 abbrev pub sheetRefusal : SheetAnswer → ℕ

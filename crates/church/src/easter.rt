@@ -2,10 +2,13 @@
 use crate::arithmetic::gregorian_limit;
 use crate::arithmetic::julian_limit;
 use crate::epact::golden_number;
-use calendar::date::day_in_year;
+use calendar::date::day_in_calendar;
+use calendar::range::is_between;
 use calendar::refusal::Refusal;
 use calendar::span::DayAnswer;
-use calendar::style::Style;
+use calendar::style::Calendar;
+use calendar::style::dates_by;
+use calendar::style::easter_by;
 use calendar::weekday::Side;
 use calendar::weekday::Start;
 use calendar::weekday::first_weekday;
@@ -14,36 +17,47 @@ ghost use mathlib.Core.Path.{_≡_};
 ghost use Prim.Native.Nat.{_+_, _-_, _≤_};
 ghost use Rattle.calendar.specs.Refusal.{checked};
 ghost use Rattle.calendar.specs.Span.{earliest, latest};
+ghost use Rattle.calendar.specs.Style.{datesBy, easterBy};
 ghost use Rattle.calendar.specs.Weekday.{sunday, firstWeekday};
 ghost use Rattle.calendar.specs.declared.span.DayAnswer.the-variants.{Day, NoDay};
 ghost use Rattle.calendar.specs.declared.weekday.Side.the-variants.{After};
 ghost use Rattle.calendar.specs.declared.weekday.Start.the-variants.{Uncounted};
-ghost use Rattle.church.specs.Easter.{limit, march, easter, easterTests};
+ghost use Rattle.church.specs.Easter.{limit, march, easter, hasEaster, easterTests};
 
 // Sunday's number.
 pub(crate) const SUNDAY: u64 = 7;
 
 // The limit, a day of March run on past 31.
-pub(crate) fn limit_of_year(named: NamedYear) -> u64
-    ensures { λ r. ⌜ r ≡ limit (named .style) (named .year) ⌝ }
+pub(crate) fn limit_of_year(calendar: Calendar, year: u64) -> u64
+    ensures { λ r. ⌜ r ≡ limit calendar year ⌝ }
 {
-    let style = named.style;
-    let golden_number = golden_number(named);
+    let golden_number = golden_number(year);
     let b = 11 * golden_number % 30;
-    // Both are worked out, so that there is no branch on the style.
+    // Both are worked out, so that there is no branch on the calendar.
     let julian = julian_limit(b);
-    let gregorian = gregorian_limit(golden_number, b, named.year / 100);
-    match style {
-        Style::Julian => julian,
-        Style::Gregorian => gregorian,
+    let gregorian = gregorian_limit(golden_number, b, year / 100);
+    match calendar {
+        Calendar::Julian => julian,
+        Calendar::Gregorian => gregorian,
     }
 }
 
-// The day of 21 March, where the year's Easter is answered, and else 4.
-pub(crate) fn equinox(named: NamedYear) -> DayAnswer
-    ensures { λ r. ⌜ r ≡ checked NoDay (Day (march (named .style) (named .year) 21)) (easterTests named) ⌝ }
+// Whether dates of the calendar answer the year's Easter.
+pub(crate) fn has_easter(calendar: Calendar, year: u64) -> bool
+    ensures { λ r. ⌜ r ≡ hasEaster calendar year ⌝ }
 {
-    match day_in_year(named, 3, 21) {
+    let first = match calendar {
+        Calendar::Julian => 1,
+        Calendar::Gregorian => 1583,
+    };
+    is_between(first, year, 9999)
+}
+
+// The day of 21 March, where dates of the calendar answer the year's Easter, and else 4.
+pub(crate) fn equinox(calendar: Calendar, year: u64) -> DayAnswer
+    ensures { λ r. ⌜ r ≡ checked NoDay (Day (march calendar year 21)) (easterTests calendar year) ⌝ }
+{
+    match day_in_calendar(calendar, year, 3, 21) {
         DayAnswer::Day(day) => DayAnswer::Day(day),
         // The year is not served, or it is 1582 of G, whose 21 March lies before the span.
         DayAnswer::NoDay(_) => DayAnswer::NoDay(Refusal::Year),
@@ -61,11 +75,18 @@ pub(crate) fn easter_after(equinox: u32, limit: u64) -> u32
 
 // Easter, where the year's is answered, and else 4.
 pub(crate) fn easter_of_year(named: NamedYear) -> DayAnswer
-    ensures { λ r. ⌜ r ≡ checked NoDay (Day (easter (named .style) (named .year))) (easterTests named) ⌝ }
+    ensures { λ r. ⌜ r ≡ checked NoDay (Day (easter (easterBy (named .style)) (named .year))) (easterTests (datesBy (named .style)) (named .year)) ⌝ }
 {
-    let answer = equinox(named);
+    let style = named.style;
+    let year = named.year;
+    if !has_easter(dates_by(style), year) {
+        return DayAnswer::NoDay(Refusal::Year);
+    }
+    let calendar = easter_by(style);
+    let answer = equinox(calendar, year);
+    // No style has a year of its dates for which the calendar of its Easter has none.
     let DayAnswer::Day(equinox) = answer else {
         return answer;
     };
-    DayAnswer::Day(easter_after(equinox, limit_of_year(named)))
+    DayAnswer::Day(easter_after(equinox, limit_of_year(calendar, year)))
 }

@@ -1,15 +1,14 @@
-// Golden numbers and epacts.
-use calendar::style::Style;
-use calendar::year::NamedYear;
+// Golden numbers, and epacts by the calendar that Easter goes by.
+use calendar::style::Calendar;
 ghost use mathlib.Core.Path.{_≡_};
 ghost use Prim.Native.Nat.{_≤_};
 ghost use Rattle.church.specs.Epact.{golden, by30, gregorianSum, epact, arabic};
 
 // The golden number.
-pub(crate) fn golden_number(named: NamedYear) -> u64
-    ensures { λ r. ⌜ r ≡ golden (named .year) ⌝ }
+pub(crate) fn golden_number(year: u64) -> u64
+    ensures { λ r. ⌜ r ≡ golden year ⌝ }
 {
-    named.year % 19 + 1
+    year % 19 + 1
 }
 
 // The Gregorian epact of a golden number and a year's whole hundreds, as many as a 64-bit year can
@@ -24,30 +23,28 @@ fn gregorian_epact(golden_number: u64, hundreds: u64) -> u64
 }
 
 // The epact.
-pub(crate) fn epact_number(named: NamedYear) -> u64
-    ensures { λ r. ⌜ r ≡ epact (named .style) (named .year) ⌝ }
+pub(crate) fn epact_number(calendar: Calendar, year: u64) -> u64
+    ensures { λ r. ⌜ r ≡ epact calendar year ⌝ }
 {
-    let style = named.style;
-    let golden_number = golden_number(named);
-    match style {
-        Style::Julian => 11 * golden_number % 30,
-        Style::Gregorian => gregorian_epact(golden_number, named.year / 100),
+    let golden_number = golden_number(year);
+    match calendar {
+        Calendar::Julian => 11 * golden_number % 30,
+        Calendar::Gregorian => gregorian_epact(golden_number, year / 100),
     }
 }
 
 // Whether the year's epact is the Arabic 25.
-pub(crate) fn is_arabic(named: NamedYear, number: u64) -> bool
-    requires { ⌜ number ≡ epact (named .style) (named .year) ⌝ }
-    ensures { λ r. ⌜ r ≡ arabic (named .style) (named .year) ⌝ }
+pub(crate) fn is_arabic(calendar: Calendar, year: u64, number: u64) -> bool
+    requires { ⌜ number ≡ epact calendar year ⌝ }
+    ensures { λ r. ⌜ r ≡ arabic calendar year ⌝ }
 {
-    let style = named.style;
-    match style {
-        Style::Julian => false,
-        Style::Gregorian => {
+    match calendar {
+        Calendar::Julian => false,
+        Calendar::Gregorian => {
             if number != 25 {
                 return false;
             }
-            golden_number(named) > 11
+            golden_number(year) > 11
         }
     }
 }

@@ -7,8 +7,9 @@ use calendar::refusal::Refusal;
 use calendar::span::DayAnswer;
 use calendar::span::day_within;
 use calendar::style::StyleAnswer;
-use calendar::style::is_gregorian;
+use calendar::style::dates_by;
 use calendar::style::style_by;
+use calendar::style::style_number;
 use calendar::style::style_of;
 use calendar::weekday::Side;
 use calendar::weekday::Start;
@@ -87,7 +88,7 @@ fn hung_on_easter(named: NamedYear, feast: u64) -> DayAnswer
     };
     let style = named.style;
     let i = (feast - 1) as usize;
-    day_within(style, easter as u64 + FROM_EASTER[i] as u64 - 63)
+    day_within(dates_by(style), easter as u64 + FROM_EASTER[i] as u64 - 63)
 }
 
 // The day of a feast that has a date.
@@ -97,8 +98,13 @@ fn fixed_in_year(named: NamedYear, feast: u64) -> DayAnswer
 {
     let i = (feast - 24) as usize;
     let date = FIXED_DATES[i] as u64;
+    let style = named.style;
     // Whether the year is leap is asked only for a feast that is a day later in leap years.
-    let later = if date >= 512 && is_leap(named) { 1 } else { 0 };
+    let later = if date >= 512 && is_leap(dates_by(style), named.year) {
+        1
+    } else {
+        0
+    };
     day_in_year(named, date / 32 % 16, date % 32 + later)
 }
 
@@ -112,17 +118,19 @@ fn advent_of_year(named: NamedYear) -> DayAnswer
     };
     let style = named.style;
     day_within(
-        style,
+        dates_by(style),
         first_weekday(Start::Counted, Side::After, SUNDAY, day),
     )
 }
 
-// The day of a feast of a year; its style comes as a truth value, which is handed on in a register and not in memory.
-fn feast_by(gregorian: bool, year: u64, feast: u64) -> DayAnswer
-    ensures { λ r. ⌜ r ≡ feastInYear (named (styleBy gregorian) year) feast ⌝ }
+// The day of a feast of a year; its style comes as a number, which is handed on in a register and not in memory.
+fn feast_by(style: u64, year: u64, feast: u64) -> DayAnswer
+    ensures { λ r. ⌜ r ≡ feastInYear (named (styleBy style) year) feast ⌝ }
 {
-    let style = style_by(gregorian);
-    let named = NamedYear { style, year };
+    let named = NamedYear {
+        style: style_by(style),
+        year,
+    };
     if !is_between(1, feast, 48) {
         return DayAnswer::NoDay(Refusal::Name);
     }
@@ -140,7 +148,7 @@ pub fn feast_in_year(named: NamedYear, feast: u64) -> DayAnswer
     ensures { λ r. ⌜ r ≡ feastInYear named feast ⌝ }
 {
     let style = named.style;
-    feast_by(is_gregorian(style), named.year, feast)
+    feast_by(style_number(style), named.year, feast)
 }
 
 // Feast: refused by 1, 4 or 6.
@@ -148,7 +156,7 @@ pub fn feast_of_year(style: u64, feast: u64, year: u64) -> DayAnswer
     ensures { λ r. ⌜ r ≡ feastOfYear style feast year ⌝ }
 {
     match style_of(style) {
-        StyleAnswer::Known(known) => feast_by(is_gregorian(known), year, feast),
+        StyleAnswer::Known(_) => feast_by(style, year, feast),
         StyleAnswer::NoStyle(refusal) => DayAnswer::NoDay(refusal),
     }
 }

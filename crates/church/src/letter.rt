@@ -1,5 +1,5 @@
-// Sunday letters.
-use calendar::year::NamedYear;
+// Sunday letters, by the calendar that dates go by.
+use calendar::style::Calendar;
 use calendar::year::is_leap;
 ghost use mathlib.Core.Path.{_≡_};
 ghost use Rattle.church.specs.Easter.{march};
@@ -19,20 +19,20 @@ fn letter_after(n: u32) -> u8
 }
 
 // The letter of the Sundays up to 28 February, told by the day of 21 March.
-pub(crate) fn first_letter(named: NamedYear, equinox: u32) -> u8
-    requires { ⌜ equinox ≡ march (named .style) (named .year) 21 ⌝ }
-    ensures { λ r. ⌜ SundayLetter (named .style) (named .year) first r ⌝ }
+pub(crate) fn first_letter(calendar: Calendar, year: u64, equinox: u32) -> u8
+    requires { ⌜ equinox ≡ march calendar year 21 ⌝ }
+    ensures { λ r. ⌜ SundayLetter calendar year first r ⌝ }
 {
-    if is_leap(named) {
+    if is_leap(calendar, year) {
         return letter_after(9 - equinox % 7);
     }
     letter_after(8 - equinox % 7)
 }
 
 // The letter of the Sundays from 1 March on, told by the day of 21 March.
-pub(crate) fn second_letter(named: NamedYear, equinox: u32) -> u8
-    requires { ⌜ equinox ≡ march (named .style) (named .year) 21 ⌝ }
-    ensures { λ r. ⌜ SundayLetter (named .style) (named .year) second r ⌝ }
+pub(crate) fn second_letter(calendar: Calendar, year: u64, equinox: u32) -> u8
+    requires { ⌜ equinox ≡ march calendar year 21 ⌝ }
+    ensures { λ r. ⌜ SundayLetter calendar year second r ⌝ }
 {
     letter_after(8 - equinox % 7)
 }

@@ -1,5 +1,5 @@
 // Year sheets.
-use crate::easter::easter_after;
+use crate::easter::easter_of_year;
 use crate::easter::equinox;
 use crate::easter::limit_of_year;
 use crate::epact::epact_number;
@@ -11,6 +11,8 @@ use crate::letter::second_letter;
 use calendar::refusal::Refusal;
 use calendar::span::DayAnswer;
 use calendar::style::StyleAnswer;
+use calendar::style::dates_by;
+use calendar::style::easter_by;
 use calendar::style::style_of;
 use calendar::year::NamedYear;
 use calendar::year::is_leap;
@@ -42,21 +44,28 @@ pub enum SheetAnswer {
 pub fn sheet_in_year(named: NamedYear) -> SheetAnswer
     ensures { λ r. ⌜ IsSheetInYear named r ⌝ }
 {
-    let equinox = match equinox(named) {
+    let style = named.style;
+    let year = named.year;
+    let easter = match easter_of_year(named) {
         DayAnswer::Day(day) => day,
         DayAnswer::NoDay(refusal) => return SheetAnswer::NoSheet(refusal),
     };
-    let limit = limit_of_year(named);
-    let easter = easter_after(equinox, limit);
+    let dates = dates_by(style);
+    let equinox = match equinox(dates, year) {
+        DayAnswer::Day(day) => day,
+        DayAnswer::NoDay(refusal) => return SheetAnswer::NoSheet(refusal),
+    };
+    let first = first_letter(dates, year, equinox);
+    let second = second_letter(dates, year, equinox);
+    let tables = easter_by(style);
+    let epact = epact_number(tables, year);
+    let limit = limit_of_year(tables, year);
     let key = (easter - equinox) as u64;
-    let epact = epact_number(named);
-    let first = first_letter(named, equinox);
-    let second = second_letter(named, equinox);
     SheetAnswer::Sheet(YearSheet {
-        leap: is_leap(named),
-        golden: golden_number(named),
+        leap: is_leap(dates, year),
+        golden: golden_number(year),
         epact,
-        arabic: is_arabic(named, epact),
+        arabic: is_arabic(tables, year, epact),
         letters: SundayLetters { first, second },
         limit,
         key,

@@ -1,25 +1,23 @@
 // The month column, as it is printed.
-use calendar::style::Style;
-use calendar::year::NamedYear;
-use church::sheet::YearSheet;
+use calendar::style::Calendar;
 ghost use mathlib.Core.Path.{_≡_};
 ghost use Prim.Native.Nat.{_≤_};
 ghost use Rattle.church.specs.Column.{stands, luna};
-ghost use Rattle.church.specs.Sheet.{IsSheet};
+ghost use Rattle.church.specs.Epact as table;
 
 // Whether an epact stands at a day of the column.
-fn stands_at(style: Style, epact: u64, arabic: bool, day: u64) -> bool
+fn stands_at(calendar: Calendar, epact: u64, arabic: bool, day: u64) -> bool
     requires { ⌜ (epact ≤ 29) × (8 ≤ day) × (day ≤ 36) ⌝ }
-    ensures { λ r. ⌜ r ≡ stands style epact «arabic» day ⌝ }
+    ensures { λ r. ⌜ r ≡ stands calendar epact «arabic» day ⌝ }
 {
-    match style {
-        Style::Julian => {
+    match calendar {
+        Calendar::Julian => {
             if day < 34 {
                 return day + epact == 34;
             }
             day + epact == 64
         }
-        Style::Gregorian => {
+        Calendar::Gregorian => {
             if day < 32 {
                 return day + epact == 31;
             }
@@ -38,17 +36,14 @@ fn stands_at(style: Style, epact: u64, arabic: bool, day: u64) -> bool
     }
 }
 
-// Luna I: the day of the column, March run on past 31, at which the epact of the year's sheet stands.
-pub(crate) fn luna_one(named: NamedYear, sheet: YearSheet) -> u64
-    requires { ⌜ IsSheet (named .style) (named .year) sheet ⌝ }
-    ensures { λ r. ⌜ r ≡ luna (named .style) (named .year) ⌝ }
+// Luna I: the day of the column, March run on past 31, at which the year's epact stands.
+pub(crate) fn luna_one(calendar: Calendar, year: u64, epact: u64, arabic: bool) -> u64
+    requires { ⌜ (epact ≡ table.epact calendar year) × («arabic» ≡ table.arabic calendar year) ⌝ }
+    ensures { λ r. ⌜ r ≡ luna calendar year ⌝ }
 {
-    let style = named.style;
-    let epact = sheet.epact;
-    let arabic = sheet.arabic;
     let mut day = 8;
     let found = loop {
-        if stands_at(style, epact, arabic, day) {
+        if stands_at(calendar, epact, arabic, day) {
             break day;
         }
         day += 1;

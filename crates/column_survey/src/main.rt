@@ -3,6 +3,7 @@
 mod column;
 
 use calendar::style::Style;
+use calendar::style::easter_by;
 use calendar::year::NamedYear;
 use church::sheet::SheetAnswer;
 use church::sheet::sheet_in_year;
@@ -29,7 +30,8 @@ fn with_year(named: NamedYear, tally: Tally) -> Tally {
     let SheetAnswer::Sheet(sheet) = answer else {
         return tally;
     };
-    let luna = luna_one(named, sheet);
+    let style = named.style;
+    let luna = luna_one(easter_by(style), named.year, sheet.epact, sheet.arabic);
     // The limit is thirteen days after Luna I.
     let same = if wrapping_add_u64(luna, 13) == sheet.limit {
         1
@@ -76,6 +78,6 @@ fn print_survey(letter: &[u8], tally: Tally) {
 }
 
 fn main() {
-    print_survey(b"J", survey(Style::Julian));
-    print_survey(b"G", survey(Style::Gregorian));
+    print_survey(b"J", survey(Style::J));
+    print_survey(b"G", survey(Style::G));
 }

@@ -27,11 +27,11 @@ use Rattle.dating.proofs.phrase.Laws.{stays-last}
 pub use Rattle.dating.proofs.phrase.Laws.{wrapper-acts}
 use Rattle.dating.proofs.writer.Laws.{text-length, seven-bytes, reads-back, one-refusal}
 pub use Rattle.dating.proofs.writer.Laws.{one-writing-in-style}
-use Rattle.calendar.specs.Date.{dayInYear}
+use Rattle.calendar.specs.Date.{dayInCalendar, dayInYear}
 use Rattle.calendar.specs.Range.{between}
 use Rattle.calendar.specs.Refusal.{refusalNumber, Holds, Lowest}
 use Rattle.calendar.specs.Span.{earliest, latest, inSpan, dayOrRefusal}
-use Rattle.calendar.specs.Style.{styleOf, styleNumber, byNumber}
+use Rattle.calendar.specs.Style.{styleNumber, datesBy, styleOf, byNumber}
 use Rattle.church.specs.Feast.{feastInYear}
 use Rattle.words.specs.Numeral.{field}
 use Rattle.words.specs.Told.{produced, unproduced}
@@ -74,7 +74,7 @@ unfolding phraseDay comesTo staysIn anchorOf
 plain-feast t f e = sym (in-table t f e)
 
 pub plain-date : (t : NamedYear) (d m : ℕ) → phraseDay t (plain (date d m)) ≡ dayInYear t m d
-unfolding phraseDay comesTo staysIn anchorOf dayInYear
+unfolding phraseDay comesTo staysIn anchorOf dayInCalendar
 plain-date t d m = refl
 
 -- The bytes s are a dating line that is accepted with the day n, part by part.
@@ -89,7 +89,7 @@ pub record Accepted (s : List ℕ) (n : ℕ) : Type 0 where
   pub year : yearServed (line .named) (line .phrase) ≡ true
   -- the feast or date is a day of that year, and every day on the way lies in the span, its own too
   pub date : dateThere (line .named) (line .phrase) ≡ true
-  pub way : staysIn (line .named .style) (line .phrase) (startDay (line .named) (line .phrase)) ≡ true
+  pub way : staysIn (datesBy (line .named .style)) (line .phrase) (startDay (line .named) (line .phrase)) ≡ true
   -- the answer is the day that the phrase comes to
   pub day : comesTo (line .phrase) (startDay (line .named) (line .phrase)) ≡ n
 
@@ -126,7 +126,7 @@ by-tests l n low =
     let t = l .named in
     let p = l .phrase in
     given dayOrRefusal NoDay (λ x. refl) n (Day (comesTo p (startDay t p))) 0 (phraseTests t p) tt
-    (λ all e. omega (arith, span-small (t .style) _ (stays-last (t .style) p (startDay t p) (all .1 .1 .0))))
+    (λ all e. omega (arith, span-small (datesBy (t .style)) _ (stays-last (datesBy (t .style)) p (startDay t p) (all .1 .1 .0))))
 
 -- the numbers that may hold of a line of the grammar, and of any bytes
 later : (l : Line) (x : Refusal) → Holds (phraseTests (l .named) (l .phrase)) x → (3 < refusalNumber x) × (refusalNumber x ≤ 6)
@@ -177,7 +177,7 @@ line-numbers s n h =
       | yes low ↦ let k = line-refused s n low .0 h in inl (rw (k .number) at (its-numbers s (k .refusal) (k .holds)))
       | no high ↦
           let k = accepted-number s n (omega arith) .0 h in
-          inr (rw (k .day) at (span-small (k .line .named .style) _ (stays-last (k .line .named .style) (k .line .phrase) _ (k .way))))
+          inr (rw (k .day) at (span-small (datesBy (k .line .named .style)) _ (stays-last (datesBy (k .line .named .style)) (k .line .phrase) _ (k .way))))
     ]
 
 -- Any two results of the writer are one: the same answer, and the same bytes in the buffer; in a style `one-writing-in-style`.
@@ -197,7 +197,7 @@ pub written-bytes : (s : Style) (n : ℕ) (w : List ℕ) → IsDateText s n w �
 written-bytes s n w t = (seven-bytes s n w t, text-length s n w t)
 
 -- Every day of a style's span is written where the buffer has 12 bytes, and the bytes written, read as a dating line, give the same day.
-pub read-back : (s : Style) (n : ℕ) (before after : List ℕ) (r : WriteAnswer) → 12 ≤ length before → inSpan s n ≡ true
+pub read-back : (s : Style) (n : ℕ) (before after : List ℕ) (r : WriteAnswer) → 12 ≤ length before → inSpan (datesBy s) n ≡ true
     → Writes before after r (styleNumber s) n → (c : ℕ) × ((r ≡ Bytes c) × IsDayOfLine (take c after) (Day n))
 read-back s n before after r room i h = go (rw (by-number s, le-leb 12 (length before) room, i) at h)
   where

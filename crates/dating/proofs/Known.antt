@@ -27,7 +27,9 @@ use Rattle.dating.specs.Anchor.{date, spellAnchor, GoodAnchor}
 use Rattle.dating.specs.Line.{ending, GoodYear, spellLine, lineDay, fit, IsNumberOfLine}
 use Rattle.dating.specs.Phrase.{Phrase, plain, wrapped, spellPhrase, GoodPhrase, anchorOf, comesTo, staysIn, startDay, phraseTests, phraseDay}
 use Rattle.calendar.specs.declared.span.DayAnswer.the-variants.{Day, NoDay}
-use Rattle.calendar.specs.declared.style.Style.the-variants.{Julian, Gregorian}
+use Rattle.calendar.specs.declared.style.Calendar.the-variants.{Julian, Gregorian}
+use Rattle.calendar.specs.declared.style.Calendar.{Calendar}
+use Rattle.calendar.specs.declared.style.Style.the-variants.{J, G}
 use Rattle.calendar.specs.declared.style.Style.{Style}
 use Rattle.calendar.specs.declared.year.NamedYear.{NamedYear}
 use Rattle.words.specs.declared.wrapper.Wrapper.the-variants.{Eve, Morrow}
@@ -35,24 +37,24 @@ use Rattle.words.specs.declared.wrapper.Wrapper.the-variants.{Eve, Morrow}
 -- what is said of a year, of a line, which is answered by a day or a refusal, and of a day
 pub data Row : Type 0 where
   golden-number : (year : ℕ) → ℕ → Row
-  year-epact : (year : ℕ) → Style → ℕ → Row
-  is-arabic : (year : ℕ) → Style → Bool → Row
-  sunday-letter : (year : ℕ) → Style → Part → ℕ → Row
-  limit-on : (year : ℕ) → Style → (day month : ℕ) → Row
-  limit-falls : (year : ℕ) → Style → (on-weekday : ℕ) → Row
-  easter-on : (year : ℕ) → Style → (day month : ℕ) → Row
+  year-epact : (year : ℕ) → Calendar → ℕ → Row
+  is-arabic : (year : ℕ) → Calendar → Bool → Row
+  sunday-letter : (year : ℕ) → Calendar → Part → ℕ → Row
+  limit-on : (year : ℕ) → Calendar → (day month : ℕ) → Row
+  limit-falls : (year : ℕ) → Calendar → (on-weekday : ℕ) → Row
+  easter-on : (year : ℕ) → Calendar → (day month : ℕ) → Row
   easter-key : (year : ℕ) → Style → ℕ → Row
   tells : (line : String) → (number : ℕ) → Row
   falls : (day on-weekday : ℕ) → Row
 
 abbrev pub Holds : Row → Type 0
 Holds (golden-number y g) = golden y ≡ g
-Holds (year-epact y s e) = epact s y ≡ e
-Holds (is-arabic y s a) = arabic s y ≡ a
-Holds (sunday-letter y s p l) = SundayLetter s y p l
-Holds (limit-on y s d m) = march s y (limit s y) ≡ dayNumber s y m d
-Holds (limit-falls y s w) = weekday (march s y (limit s y)) ≡ w
-Holds (easter-on y s d m) = easter s y ≡ dayNumber s y m d
+Holds (year-epact y c e) = epact c y ≡ e
+Holds (is-arabic y c a) = arabic c y ≡ a
+Holds (sunday-letter y c p l) = SundayLetter c y p l
+Holds (limit-on y c d m) = march c y (limit c y) ≡ dayNumber c y m d
+Holds (limit-falls y c w) = weekday (march c y (limit c y)) ≡ w
+Holds (easter-on y c d m) = easter c y ≡ dayNumber c y m d
 Holds (easter-key y s k) = key s y ≡ k
 Holds (tells line n) = IsNumberOfLine (bytes line) n
 Holds (falls n w) = weekday n ≡ w
@@ -86,8 +88,8 @@ table =
     ∷ year-epact 1981 Gregorian 24
     ∷ limit-on 1981 Gregorian 18 4
     ∷ easter-on 1981 Gregorian 19 4
-    ∷ easter-key 1818 Gregorian 1
-    ∷ easter-key 1943 Gregorian 35
+    ∷ easter-key 1818 G 1
+    ∷ easter-key 1943 G 35
     ∷ golden-number 1225 10
     ∷ sunday-letter 1225 Julian first (code "E")
     ∷ sunday-letter 1225 Julian second (code "E")
@@ -104,12 +106,12 @@ read p t fits good year spelled told = fit fits (produced (record { phrase = p; 
 lines-known : All Holds lineRows
 unfolding spellPhrase spellAnchor decimal GoodPhrase GoodAnchor comesTo staysIn anchorOf served isDate inSpan between dayNumber daysOfMonths newYear daysOfYears
 lines-known =
-    read (plain (date 29 2)) (named Julian 1900) refl (omega arith) (omega arith) refl refl
+    read (plain (date 29 2)) (named J 1900) refl (omega arith) (omega arith) refl refl
     also refl
-    also read (plain (date 15 10)) (named Gregorian 1582) refl (omega arith) (omega arith) refl refl
-    also read (plain (date 14 10)) (named Gregorian 1582) refl (omega arith) (omega arith) refl refl
-    also read (plain (date 29 2)) (named Gregorian 1582) refl (omega arith) (omega arith) refl refl
-    also read (wrapped Morrow (wrapped Eve (plain (date 1 1)))) (named Julian 1) refl (tt, (tt, omega arith)) (omega arith) refl refl
+    also read (plain (date 15 10)) (named G 1582) refl (omega arith) (omega arith) refl refl
+    also read (plain (date 14 10)) (named G 1582) refl (omega arith) (omega arith) refl refl
+    also read (plain (date 29 2)) (named G 1582) refl (omega arith) (omega arith) refl refl
+    also read (wrapped Morrow (wrapped Eve (plain (date 1 1)))) (named J 1) refl (tt, (tt, omega arith)) (omega arith) refl refl
     also none
 
 -- Each row of the table holds, those of years by computation.

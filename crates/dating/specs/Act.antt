@@ -4,7 +4,7 @@ use Rattle.calendar.specs.Span.{within}
 use Rattle.calendar.specs.Weekday.{firstWeekday}
 use Rattle.calendar.specs.declared.span.DayAnswer.the-variants.{Day, NoDay}
 use Rattle.calendar.specs.declared.span.DayAnswer.{DayAnswer}
-use Rattle.calendar.specs.declared.style.Style.{Style}
+use Rattle.calendar.specs.declared.style.Calendar.{Calendar}
 use Rattle.words.specs.declared.wrapper.Wrapper.the-variants.{Eve, Morrow, Octave, First}
 use Rattle.words.specs.declared.wrapper.Wrapper.{Wrapper}
 
@@ -22,5 +22,5 @@ andThen (Day n) next = next n
 andThen (NoDay x) next = NoDay x
 
 -- a wrapper acts on what stands behind it: "Every day on the way must lie in the span."
-abbrev pub acted : Style → Wrapper → DayAnswer → DayAnswer
-acted s w r = andThen r (λ n. within s (moved w n))
+abbrev pub acted : Calendar → Wrapper → DayAnswer → DayAnswer
+acted c w r = andThen r (λ n. within c (moved w n))

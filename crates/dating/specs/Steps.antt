@@ -6,7 +6,7 @@ use Prim.Native.Nat.{ℕ, _+_, _/_, _%_}
 use lib.Dec.{eqb, ltb}
 use lib.ListN.{length}
 use lib.Seq.{sets}
-use Rattle.calendar.specs.Style.{styleLetter, styleBy}
+use Rattle.calendar.specs.Style.{styleLetter}
 use Rattle.church.specs.Feast.{ruleDay}
 use Rattle.words.specs.Told.{Grammar}
 use Rattle.dating.specs.Anchor.{Anchor, spellAnchor, GoodAnchor, anchorRule}
@@ -16,7 +16,7 @@ use Rattle.dating.specs.Phrase.{Phrase, spellPhrase, GoodPhrase}
 use Rattle.dating.specs.Writer.{IsDateText}
 use Rattle.calendar.specs.declared.span.DayAnswer.the-variants.{Day, NoDay}
 use Rattle.calendar.specs.declared.span.DayAnswer.{DayAnswer}
-use Rattle.calendar.specs.declared.style.Style.the-variants.{Julian, Gregorian}
+use Rattle.calendar.specs.declared.style.Style.the-variants.{J, G}
 use Rattle.calendar.specs.declared.style.Style.{Style}
 use Rattle.calendar.specs.declared.weekday.Side.the-variants.{After, Before}
 use Rattle.calendar.specs.declared.weekday.Side.{Side}
@@ -39,7 +39,7 @@ abbrev pub anchors : Grammar
 anchors = record { Tree = Anchor; Good = GoodAnchor; spell = spellAnchor }
 
 -- the day of a feast word or date in the named year t
-abbrev pub anchorDay : NamedYear → Anchor → DayAnswer
+unfoldable pub anchorDay : NamedYear → Anchor → DayAnswer
 anchorDay t a = ruleDay t (anchorRule a)
 
 abbrev pub phrases : Grammar
@@ -47,11 +47,11 @@ phrases = record { Tree = Phrase; Good = GoodPhrase; spell = spellPhrase }
 
 -- the byte is the letter of a style
 abbrev pub isStyleLetter : ℕ → Bool
-isStyleLetter x = eqb x (styleLetter Gregorian) || eqb x (styleLetter Julian)
+isStyleLetter x = eqb x (styleLetter G) || eqb x (styleLetter J)
 
 -- the style whose letter the byte is; J for any other byte
 abbrev pub styleOfLetter : ℕ → Style
-styleOfLetter x = styleBy (eqb x (styleLetter Gregorian))
+styleOfLetter x = cond (eqb x (styleLetter G)) G J
 
 -- any bytes before a year and a style letter
 pub record Ended : Type 0 where

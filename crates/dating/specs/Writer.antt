@@ -7,7 +7,7 @@ use lib.ListN.{length}
 use Rattle.calendar.specs.Date.{dayInYear}
 use Rattle.calendar.specs.Refusal.{refusalNumber, Test, _unless_, checked}
 use Rattle.calendar.specs.Span.{inSpan}
-use Rattle.calendar.specs.Style.{styleLetter, styleOf, inStyle}
+use Rattle.calendar.specs.Style.{styleLetter, datesBy, styleOf, inStyle}
 use Rattle.calendar.specs.Year.{named}
 use Rattle.words.specs.Numeral.{field}
 use Rattle.words.specs.Text.{space, point, over}
@@ -38,7 +38,7 @@ bytesOrRefusal (NoBytes x) = refusalNumber x
 
 -- the writer's tests, with so much room: refused by 2, "the writer's buffer has fewer than 12", or 6
 abbrev pub writeTests : (room : ℕ) → Style → ℕ → List Test
-writeTests room s n = Length unless leb 12 room ∷ Span unless inSpan s n ∷ []
+writeTests room s n = Length unless leb 12 room ∷ Span unless inSpan (datesBy s) n ∷ []
 
 -- a call that is lent a buffer answers r and leaves the buffer, which held the bytes before, with the bytes after
 module _ (before after : List ℕ) (r : WriteAnswer) where

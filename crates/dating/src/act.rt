@@ -1,7 +1,7 @@
 // Wrappers move a day, and each moved day is tested against the span.
 use calendar::span::DayAnswer;
 use calendar::span::day_within;
-use calendar::style::Style;
+use calendar::style::Calendar;
 use calendar::weekday::Side;
 use calendar::weekday::Start;
 use calendar::weekday::first_weekday;
@@ -34,9 +34,9 @@ fn side_of(number: u64) -> Side
 }
 
 // The day that the wrapper with a number makes of a day of the span: the weekday found and the days added are both worked out, and one is taken.
-pub(crate) fn act(number: u64, style: Style, day: u32) -> DayAnswer
-    requires { ⌜ GoodWrapper (wrapperOf number) × (inSpan style day ≡ true) ⌝ }
-    ensures { λ r. ⌜ r ≡ acted style (wrapperOf number) (Day day) ⌝ }
+pub(crate) fn act(number: u64, calendar: Calendar, day: u32) -> DayAnswer
+    requires { ⌜ GoodWrapper (wrapperOf number) × (inSpan calendar day ≡ true) ⌝ }
+    ensures { λ r. ⌜ r ≡ acted calendar (wrapperOf number) (Day day) ⌝ }
 {
     let told = number % 8;
     // A weekday in either case, so that the compiler sees that the search has one and makes no branch of it.
@@ -45,5 +45,5 @@ pub(crate) fn act(number: u64, style: Style, day: u32) -> DayAnswer
     // The numbers of eve, morrow and octave are four times one more than the days that they add.
     let moved = day as u64 + number / 4 - 1;
     let answer = if told == 0 { moved } else { found };
-    day_within(style, answer)
+    day_within(calendar, answer)
 }

@@ -13,6 +13,7 @@ ghost use mathlib.Core.Path.{_≡_};
 ghost use Prim.Native.Nat.{_+_, _≤_};
 ghost use lib.ListN.{length};
 ghost use Rattle.calendar.specs.Span.{inSpan};
+ghost use Rattle.calendar.specs.Style.{datesBy};
 ghost use Rattle.dating.specs.Answer.{dayFields, refusedText, PutsField, PutsAnswer};
 ghost use Rattle.dating.specs.Steps.{Put, PutsDated};
 
@@ -40,7 +41,7 @@ fn put_refused(buffer: &mut [u8], at: usize, refusal: Refusal) -> usize
 
 // Puts what stands before the date in the answer of a day of the span at a place, and answers the place behind it.
 fn put_fields(buffer: &mut [u8], at: usize, style: Style, day: u64) -> usize
-    requires { ⌜ (at + 12 ≤ length (now buffer)) × (inSpan style day ≡ true) ⌝ }
+    requires { ⌜ (at + 12 ≤ length (now buffer)) × (inSpan (datesBy style) day ≡ true) ⌝ }
     ensures { λ r. ⌜ Put (now (buffer .entry)) at (dayFields day) (now (buffer .exit)) r ⌝ }
 {
     let weekday = weekday_or_zero(weekday_in_style(style, day));
@@ -51,7 +52,7 @@ fn put_fields(buffer: &mut [u8], at: usize, style: Style, day: u64) -> usize
 
 // Puts the answer that tells a day of the span at a place, and answers the place behind it.
 fn put_dated(buffer: &mut [u8], at: usize, style: Style, day: u64) -> usize
-    requires { ⌜ (at + 25 ≤ length (now buffer)) × (inSpan style day ≡ true) ⌝ }
+    requires { ⌜ (at + 25 ≤ length (now buffer)) × (inSpan (datesBy style) day ≡ true) ⌝ }
     ensures { λ r. ⌜ PutsDated style day at (now (buffer .entry)) (now (buffer .exit)) r ⌝ }
 {
     let date_at = put_fields(buffer, at, style, day);

@@ -4,7 +4,7 @@ use calendar::refusal::Refusal;
 use calendar::span::DayAnswer;
 use calendar::span::day_or_refusal;
 use calendar::style::Style;
-use calendar::style::is_gregorian;
+use calendar::style::style_number;
 use calendar::year::NamedYear;
 use words::numeral::four_digits;
 use words::numeral::number_of;
@@ -50,9 +50,9 @@ fn style_of_letter(letter: u8) -> Style
     ensures { λ r. ⌜ r ≡ styleOfLetter letter ⌝ }
 {
     if letter == b'G' {
-        return Style::Gregorian;
+        return Style::G;
     }
-    Style::Julian
+    Style::J
 }
 
 // What stands behind the phrase of a line.
@@ -112,7 +112,7 @@ pub fn day_of_line(line: &[u8]) -> DayAnswer
         return DayAnswer::NoDay(Refusal::Form);
     };
     let style = named.style;
-    phrase_in_year(&line[..phrase], is_gregorian(style), named.year)
+    phrase_in_year(&line[..phrase], style_number(style), named.year)
 }
 
 // The reading of a dating line; where that has a day, its ending is told by its last bytes.

@@ -2,6 +2,7 @@
 use crate::act::act;
 use crate::anchor::anchor_in_year;
 use calendar::span::DayAnswer;
+use calendar::style::dates_by;
 use calendar::style::style_by;
 use calendar::year::NamedYear;
 use words::wrapper::lead_of;
@@ -15,25 +16,26 @@ ghost use Rattle.words.specs.Told.{Told};
 ghost use Rattle.dating.specs.Phrase.{phraseDay};
 ghost use Rattle.dating.specs.Steps.{phrases};
 
-// The day of a phrase in a year whose style comes as a truth value, which is handed on in a register and not in memory.
+// The day of a phrase in a year whose style comes as a number, which is handed on in a register and not in memory.
 // It calls itself once for each wrapper, so its depth is bounded by the phrase's length.
-pub(crate) fn phrase_in_year(phrase: &[u8], gregorian: bool, year: u64) -> DayAnswer
+pub(crate) fn phrase_in_year(phrase: &[u8], style: u64, year: u64) -> DayAnswer
     requires { ⌜ length (now phrase) ≤ 120 ⌝ }
-    ensures { λ r. ⌜ Told phrases (phraseDay (named (styleBy gregorian) year)) (NoDay Form) (now (phrase .entry)) r ⌝ }
+    ensures { λ r. ⌜ Told phrases (phraseDay (named (styleBy style) year)) (NoDay Form) (now (phrase .entry)) r ⌝ }
 {
     let found = lead_of(phrase);
-    let style = style_by(gregorian);
+    let known = style_by(style);
     if found.length == 0 {
-        let answer = anchor_in_year(phrase, NamedYear { style, year });
+        let named = NamedYear { style: known, year };
+        let answer = anchor_in_year(phrase, named);
         let DayAnswer::Day(day) = answer else {
             return answer;
         };
         return DayAnswer::Day(day);
     }
     let length = found.length;
-    let behind = phrase_in_year(&phrase[length..], gregorian, year);
+    let behind = phrase_in_year(&phrase[length..], style, year);
     let DayAnswer::Day(day) = behind else {
         return behind;
     };
-    act(found.number, style, day)
+    act(found.number, dates_by(known), day)
 }

@@ -6,6 +6,7 @@ use calendar::span::DayAnswer;
 use calendar::span::day_within;
 use calendar::style::Style;
 use calendar::style::StyleAnswer;
+use calendar::style::dates_by;
 use calendar::style::style_letter;
 use calendar::style::style_of;
 use calendar::year::NamedYear;
@@ -14,6 +15,7 @@ ghost use mathlib.Core.Path.{_≡_};
 ghost use Prim.Native.Nat.{_+_, _≤_};
 ghost use lib.ListN.{length};
 ghost use Rattle.calendar.specs.Span.{inSpan};
+ghost use Rattle.calendar.specs.Style.{datesBy};
 ghost use Rattle.words.specs.Numeral.{numeral, field};
 ghost use Rattle.dating.specs.Steps.{Put, PutsDate};
 ghost use Rattle.dating.specs.Writer.{dateText, WritesInStyle, Writes};
@@ -86,7 +88,7 @@ fn put_date(buffer: &mut [u8], at: usize, named: NamedYear, month: u64, day: u64
 
 // Puts the date of a day of the span at a place, and answers the place behind it.
 pub(crate) fn put_day(buffer: &mut [u8], at: usize, style: Style, day: u64) -> usize
-    requires { ⌜ (at + 12 ≤ length (now buffer)) × (inSpan style day ≡ true) ⌝ }
+    requires { ⌜ (at + 12 ≤ length (now buffer)) × (inSpan (datesBy style) day ≡ true) ⌝ }
     ensures { λ r. ⌜ PutsDate style day at (now (buffer .entry)) (now (buffer .exit)) r ⌝ }
 {
     match date_in_style(style, day) {
@@ -108,7 +110,7 @@ pub fn write_in_style(style: Style, day: u64, buffer: &mut [u8]) -> WriteAnswer
     if buffer.len() < 12 {
         return WriteAnswer::NoBytes(Refusal::Length);
     }
-    match day_within(style, day) {
+    match day_within(dates_by(style), day) {
         DayAnswer::Day(_) => WriteAnswer::Bytes(put_day(buffer, 0, style, day)),
         DayAnswer::NoDay(refusal) => WriteAnswer::NoBytes(refusal),
     }

@@ -2,7 +2,7 @@
 use mathlib.Core.Bool.{Bool, true, false, cond, true≢false}
 use mathlib.Core.List.{List, [], _∷_}
 use mathlib.Core.Logic.{_↔_}
-use mathlib.Core.Path.{_≡_, refl, sym}
+use mathlib.Core.Path.{_≡_, refl, sym, _∙_}
 use Prim.Native.Nat.{ℕ, zero, suc}
 use native.Mathlib.Omega.{arith}
 use lib.Dec.{T, eqb}
@@ -13,7 +13,7 @@ use Rattle.calendar.specs.Refusal.{refusalNumber, Test, _unless_, checke
 use Rattle.calendar.specs.Style.{styleNumber, styleBy, styleOf, inStyle, byNumber}
 use Rattle.calendar.specs.declared.refusal.Refusal.the-variants.{Name}
 use Rattle.calendar.specs.declared.refusal.Refusal.{Refusal}
-use Rattle.calendar.specs.declared.style.Style.the-variants.{Julian, Gregorian}
+use Rattle.calendar.specs.declared.style.Style.the-variants.{J, G}
 use Rattle.calendar.specs.declared.style.Style.{Style}
 use Rattle.calendar.specs.declared.style.StyleAnswer.the-variants.{Known, NoStyle}
 use Rattle.calendar.specs.declared.style.StyleAnswer.{StyleAnswer}
@@ -21,11 +21,11 @@ use Rattle.calendar.specs.declared.style.StyleAnswer.{StyleAnswer}
 -- a call by the number of a style is the call in that style
 pub by-number : (s : Style) → styleOf (styleNumber s) ≡ Known s
 unfolding styleOf
-by-number Julian = refl
-by-number Gregorian = refl
+by-number J = refl
+by-number G = refl
 
 -- the numbers of styles are a range
-pub by-range : (n : ℕ) → styleOf n ≡ cond (between 1 n 2) (Known (styleBy (eqb n 2))) (NoStyle Name)
+pub by-range : (n : ℕ) → styleOf n ≡ cond (between 1 n 2) (Known (styleBy n)) (NoStyle Name)
 unfolding styleOf between
 by-range zero = refl
 by-range (suc zero) = refl
@@ -34,14 +34,26 @@ by-range (suc (suc (suc n))) =
     let k = suc (suc (suc n)) in
     rw (ne-eqb k 1 (λ e. omega arith), ne-eqb k 2 (λ e. omega arith), le-leb 1 k (omega arith), lt-leb k 2 (omega arith))
 
--- what holds in both styles, and where there is none, holds whatever the number
+-- a style that is known by a number is the style by that number
+pub by-its-number : (s : Style) → styleBy (styleNumber s) ≡ s
+by-its-number J = refl
+by-its-number G = refl
+
+pub known-by : (k : ℕ) (s : Style) → styleOf k ≡ Known s → styleBy k ≡ s
+known-by k s e = go (between 1 k 2) (sym (by-range k) ∙ e)
+  where
+    go : (b : Bool) → cond b (Known (styleBy k)) (NoStyle Name) ≡ Known s → styleBy k ≡ s
+    go true h = cc
+    go false h = let z : _≡_ {A = ℕ} 0 1 = cc in absurd (omega arith)
+
+-- what holds in each style, and where there is none, holds whatever the number
 pub by-cases {ℓ} : (P : StyleAnswer → Type ℓ) → ((s : Style) → P (Known s)) → P (NoStyle Name) → (k : ℕ) → P (styleOf k)
 unfolding styleOf
 by-cases P known none k = go (eqb k 1) (eqb k 2)
   where
-    go : (a b : Bool) → P (cond a (Known Julian) (cond b (Known Gregorian) (NoStyle Name)))
-    go true b = known Julian
-    go false true = known Gregorian
+    go : (a b : Bool) → P (cond a (Known J) (cond b (Known G) (NoStyle Name)))
+    go true b = known J
+    go false true = known G
     go false false = none
 
 -- two results of one call, by what follows of them in each style and where they are refused

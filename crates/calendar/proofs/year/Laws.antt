@@ -9,8 +9,8 @@ use borrow.Author.Tests.{eqb-true, eqb-false}
 use Rattle.calendar.proofs.Counting.{rises, not-after, one-place}
 use Rattle.calendar.specs.Return.{ReturnsAfter, weekdayPeriod}
 use Rattle.calendar.specs.Year.{divides, leap, yearLength, daysOfYears, firstNewYear, newYear, YearOf}
-use Rattle.calendar.specs.declared.style.Style.the-variants.{Julian, Gregorian}
-use Rattle.calendar.specs.declared.style.Style.{Style}
+use Rattle.calendar.specs.declared.style.Calendar.the-variants.{Julian, Gregorian}
+use Rattle.calendar.specs.declared.style.Calendar.{Calendar}
 
 -- 1 for yes
 abbrev bit : Bool → ℕ
@@ -20,7 +20,7 @@ bit b = cond b 1 0
 remainder-returns : (y k d : ℕ) → k % d ≡ 0 → (y + k) % d ≡ y % d
 remainder-returns y k d h = sym (add-mod-mod y k d) ∙ rw (h, add-zero)
 
-pub leap-years-return : (s : Style) → ReturnsAfter (weekdayPeriod s) (leap s)
+pub leap-years-return : (c : Calendar) → ReturnsAfter (weekdayPeriod c) (leap c)
 leap-years-return Julian y h = simp remainder-returns
 leap-years-return Gregorian y h = simp remainder-returns
 
@@ -49,17 +49,17 @@ fewer j k y true false h p q = omega arith
 fewer j k y false true h p q = absurd (eqb-false (y % j) 0 p (h (eqb-true (y % k) 0 q)))
 fewer j k y false false h p q = omega arith
 
--- the years from 1 to n that end a century, of which the style leaves out the leap day, but for each fourth; J leaves out none
-abbrev pub hundreds : Style → ℕ → ℕ
+-- the years from 1 to n that end a century, of which the calendar leaves out the leap day, but for each fourth; J leaves out none
+abbrev pub hundreds : Calendar → ℕ → ℕ
 hundreds Julian n = 0
 hundreds Gregorian n = n / 100
 
 -- the days of the years 1 to n
-abbrev pub closed : Style → ℕ → ℕ
-closed s n = 365 * n + n / 4 + hundreds s n / 4 - hundreds s n
+abbrev pub closed : Calendar → ℕ → ℕ
+closed c n = 365 * n + n / 4 + hundreds c n / 4 - hundreds c n
 
--- what is chosen by style is small
-pub choices-small : (s : Style) (n : ℕ) → (firstNewYear s ≤ 1721426) × (hundreds s n ≤ n / 4)
+-- what is chosen by the calendar is small
+pub choices-small : (c : Calendar) (n : ℕ) → (firstNewYear c ≤ 1721426) × (hundreds c n ≤ n / 4)
 choices-small Julian n = omega arith
 choices-small Gregorian n = omega arith
 
@@ -81,7 +81,7 @@ step-G n q c d false true e h i j = absurd (omega arith)
 step-G n q c d false false true h i j = absurd (omega arith)
 step-G n q c d false false false h i j = omega arith
 
-step : (s : Style) (n : ℕ) → closed s n + yearLength s (suc n) ≡ closed s (suc n)
+step : (c : Calendar) (n : ℕ) → closed c n + yearLength c (suc n) ≡ closed c (suc n)
 step Julian n = rw (up 4 n _ (omega arith) refl) (omega (arith, step-J n (n / 4) (divides 4 (suc n))))
 step Gregorian n =
     let y = suc n in
@@ -89,48 +89,48 @@ step Gregorian n =
     (step-G n (n / 4) (n / 100) (n / 400) (divides 4 y) (divides 100 y) (divides 400 y) (choices-small Gregorian n .1)
     (fewer 4 100 y _ _ (λ h. omega arith) refl refl) (fewer 100 400 y _ _ (λ h. omega arith) refl refl))
 
-counted : (s : Style) (n : ℕ) → daysOfYears s n ≡ closed s n
+counted : (c : Calendar) (n : ℕ) → daysOfYears c n ≡ closed c n
 unfolding daysOfYears
 counted Julian zero = refl
 counted Gregorian zero = refl
-counted s (suc n) = rw (counted s n) (step s n)
+counted c (suc n) = rw (counted c n) (step c n)
 
 -- the closed form of a year's first day
-pub new-year-closed : (s : Style) (n : ℕ) → newYear s (n + 1) ≡ firstNewYear s + closed s n
+pub new-year-closed : (c : Calendar) (n : ℕ) → newYear c (n + 1) ≡ firstNewYear c + closed c n
 unfolding newYear
-new-year-closed s n = rw (add-one, counted)
+new-year-closed c n = rw (add-one, counted)
 
-pub new-year-at : (s : Style) (y : ℕ) → 1 ≤ y → newYear s y ≡ firstNewYear s + closed s (y - 1)
-new-year-at s y h =
+pub new-year-at : (c : Calendar) (y : ℕ) → 1 ≤ y → newYear c y ≡ firstNewYear c + closed c (y - 1)
+new-year-at c y h =
     let e : y - 1 + 1 ≡ y = omega arith in
-    rw e at (new-year-closed s (y - 1))
+    rw e at (new-year-closed c (y - 1))
 
 -- one year later
-pub year-up : (s : Style) (y : ℕ) → 1 ≤ y → newYear s (suc y) ≡ newYear s y + yearLength s y
+pub year-up : (c : Calendar) (y : ℕ) → 1 ≤ y → newYear c (suc y) ≡ newYear c y + yearLength c y
 unfolding newYear daysOfYears
-year-up s zero h = absurd (omega arith)
-year-up s (suc n) h = omega arith
+year-up c zero h = absurd (omega arith)
+year-up c (suc n) h = omega arith
 
-grows : (s : Style) (y : ℕ) → newYear s y ≤ newYear s (suc y)
+grows : (c : Calendar) (y : ℕ) → newYear c y ≤ newYear c (suc y)
 unfolding newYear
-grows s zero = le-refl _
-grows s (suc n) = omega (arith, year-up s (suc n) (omega arith))
+grows c zero = le-refl _
+grows c (suc n) = omega (arith, year-up c (suc n) (omega arith))
 
-pub new-year-rises : (s : Style) (y z : ℕ) → y ≤ z → newYear s y ≤ newYear s z
-new-year-rises s = rises (newYear s) (grows s)
+pub new-year-rises : (c : Calendar) (y z : ℕ) → y ≤ z → newYear c y ≤ newYear c z
+new-year-rises c = rises (newYear c) (grows c)
 
 -- a year that begins by a day is not past one that ends after it
-pub year-not-after : (s : Style) (n y z : ℕ) → newYear s y ≤ n → n < newYear s (suc z) → y ≤ z
-year-not-after s n y z from to = not-after (newYear s) (grows s) y z n from to
+pub year-not-after : (c : Calendar) (n y z : ℕ) → newYear c y ≤ n → n < newYear c (suc z) → y ≤ z
+year-not-after c n y z from to = not-after (newYear c) (grows c) y z n from to
 
 -- a day lies in one year only
-pub one-year : (s : Style) (n y z : ℕ) → YearOf s n y → YearOf s n z → y ≡ z
-one-year s n y z h g = one-place (newYear s) (grows s) y z n (h .from) (h .to) (g .from) (g .to)
+pub one-year : (c : Calendar) (n y z : ℕ) → YearOf c n y → YearOf c n z → y ≡ z
+one-year c n y z h g = one-place (newYear c) (grows c) y z n (h .from) (h .to) (g .from) (g .to)
 
 -- the estimate of a day's year by the mean length of a year is that year or the one before
-pub record Estimate (s : Style) (n k : ℕ) : Type 0 where
-  pub from : closed s k ≤ n
-  pub to : n < closed s (k + 2)
+pub record Estimate (c : Calendar) (n k : ℕ) : Type 0 where
+  pub from : closed c k ≤ n
+  pub to : n < closed c (k + 2)
 
 pub estimate-J : (n k : ℕ) → k ≡ n * 4 / 1461 → Estimate Julian n k
 estimate-J n k e = record { from = omega arith; to = omega arith }
@@ -138,34 +138,34 @@ estimate-J n k e = record { from = omega arith; to = omega arith }
 pub estimate-G : (n k : ℕ) → k ≡ n * 400 / 146097 → Estimate Gregorian n k
 estimate-G n k e = record { from = omega arith; to = omega arith }
 
-pub estimated : (s : Style) (n k : ℕ) → firstNewYear s ≤ n → Estimate s (n - firstNewYear s) k
-    → (newYear s (k + 1) ≤ n) × (n < newYear s (k + 1 + 2))
-estimated s n k h g =
+pub estimated : (c : Calendar) (n k : ℕ) → firstNewYear c ≤ n → Estimate c (n - firstNewYear c) k
+    → (newYear c (k + 1) ≤ n) × (n < newYear c (k + 1 + 2))
+estimated c n k h g =
     let e : k + 1 + 2 ≡ k + 2 + 1 = omega arith in
-    (omega (arith, new-year-closed s k), rw e (omega (arith, new-year-closed s (k + 2))))
+    (omega (arith, new-year-closed c k), rw e (omega (arith, new-year-closed c (k + 2))))
 
 -- the one correction of the estimate
-pub estimate-right : (s : Style) (n y : ℕ) → 1 ≤ y → newYear s y ≤ n → n < newYear s (y + 1) → YearOf s n y
-estimate-right s n y one from to = record { one = one; from = from; to = rw add-one at to }
+pub estimate-right : (c : Calendar) (n y : ℕ) → 1 ≤ y → newYear c y ≤ n → n < newYear c (y + 1) → YearOf c n y
+estimate-right c n y one from to = record { one = one; from = from; to = rw add-one at to }
 
-pub estimate-low : (s : Style) (n y : ℕ) → newYear s (y + 1) ≤ n → n < newYear s (y + 2) → YearOf s n (y + 1)
-estimate-low s n y from to =
+pub estimate-low : (c : Calendar) (n y : ℕ) → newYear c (y + 1) ≤ n → n < newYear c (y + 2) → YearOf c n (y + 1)
+estimate-low c n y from to =
     let e : y + 2 ≡ y + 1 + 1 = omega arith in
-    estimate-right s n (y + 1) (omega arith) from (rw e at to)
+    estimate-right c n (y + 1) (omega arith) from (rw e at to)
 
 -- the weekdays' period has whole weeks
-abbrev pub periodWeeks : Style → ℕ
+abbrev pub periodWeeks : Calendar → ℕ
 periodWeeks Julian = 1461
 periodWeeks Gregorian = 20871
 
-closed-returns : (s : Style) (n : ℕ) → closed s (n + weekdayPeriod s) ≡ closed s n + 7 * periodWeeks s
+closed-returns : (c : Calendar) (n : ℕ) → closed c (n + weekdayPeriod c) ≡ closed c n + 7 * periodWeeks c
 closed-returns Julian n = omega arith
 closed-returns Gregorian n =
     let fours : (n + 400) / 4 ≡ n / 4 + 100 = omega arith in
     let centuries : (n + 400) / 100 ≡ n / 100 + 4 = omega arith in
     rw (fours, centuries) (omega (arith, choices-small Gregorian n))
 
-pub new-year-returns : (s : Style) (y : ℕ) → 1 ≤ y → newYear s (y + weekdayPeriod s) ≡ newYear s y + 7 * periodWeeks s
-new-year-returns s y h =
-    let e : y + weekdayPeriod s - 1 ≡ y - 1 + weekdayPeriod s = omega arith in
-    rw (new-year-at s (y + weekdayPeriod s) (omega arith), e, closed-returns s (y - 1), new-year-at s y h) (omega arith)
+pub new-year-returns : (c : Calendar) (y : ℕ) → 1 ≤ y → newYear c (y + weekdayPeriod c) ≡ newYear c y + 7 * periodWeeks c
+new-year-returns c y h =
+    let e : y + weekdayPeriod c - 1 ≡ y - 1 + weekdayPeriod c = omega arith in
+    rw (new-year-at c (y + weekdayPeriod c) (omega arith), e, closed-returns c (y - 1), new-year-at c y h) (omega arith)

@@ -14,8 +14,8 @@ use Rattle.church.specs.Arithmetic.{bOf, zOf, brought, settled, gregoria
 use Rattle.church.specs.Column.{stands, walk, luna}
 use Rattle.church.specs.Easter.{limit}
 use Rattle.church.specs.Epact.{golden, hundreds, by30, gregorianSum, epact, arabic}
-use Rattle.calendar.specs.declared.style.Style.the-variants.{Julian, Gregorian}
-use Rattle.calendar.specs.declared.style.Style.{Style}
+use Rattle.calendar.specs.declared.style.Calendar.the-variants.{Julian, Gregorian}
+use Rattle.calendar.specs.declared.style.Calendar.{Calendar}
 
 -- a difference that is not negative
 minus : (x y : ℕ) → y ≤ x → pos x -ℤ pos y ≡ pos (x - y)
@@ -80,7 +80,7 @@ unfolding julian-test firstOf stands between
 julian-tested g r = from-1 julian-test 19 tt g r
 
 -- The arithmetic and the month column give one limit.
-pub one-limit : (s : Style) (y : ℕ) → arithmeticLimit s y ≡ limit s y
+pub one-limit : (c : Calendar) (y : ℕ) → arithmeticLimit c y ≡ limit c y
 unfolding arithmeticLimit limit luna epact arabic settled-test julian-test
 one-limit Julian y = eqb→eq _ _ (julian-tested (golden y) (golden-range y))
 one-limit Gregorian y =

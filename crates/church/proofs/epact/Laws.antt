@@ -7,8 +7,8 @@ use lib.Dec.{ltb}
 use lib.IntN.{ℤ, pos, negsuc, subℕ, _+ℤ_, _-ℤ_, _*ℤ_}
 use borrow.Author.Tests.{lt-ltb, ltb-true, ltb-false, eq-eqb, ne-eqb}
 use Rattle.church.specs.Epact.{golden, hundreds, by30, gregorianSum, epact, arabic}
-use Rattle.calendar.specs.declared.style.Style.the-variants.{Julian, Gregorian}
-use Rattle.calendar.specs.declared.style.Style.{Style}
+use Rattle.calendar.specs.declared.style.Calendar.the-variants.{Julian, Gregorian}
+use Rattle.calendar.specs.declared.style.Calendar.{Calendar}
 
 pub golden-range : (y : ℕ) → (1 ≤ golden y) × (golden y ≤ 19)
 unfolding golden
@@ -49,18 +49,18 @@ pub by30-small : (z : ℤ) → by30 z ≤ 29
 by30-small (pos n) = omega arith
 by30-small (negsuc n) = omega arith
 
-pub epact-small : (s : Style) (y : ℕ) → epact s y ≤ 29
+pub epact-small : (c : Calendar) (y : ℕ) → epact c y ≤ 29
 unfolding epact
 epact-small Julian y = omega arith
 epact-small Gregorian y = by30-small (gregorianSum (golden y) (hundreds y))
 
 -- the Arabic 25, as the code tells it
-pub not-25 : (s : Style) (y : ℕ) → (epact s y ≡ 25 → ⊥) → arabic s y ≡ false
+pub not-25 : (c : Calendar) (y : ℕ) → (epact c y ≡ 25 → ⊥) → arabic c y ≡ false
 unfolding arabic
 not-25 Julian y h = refl
 not-25 Gregorian y h = rw (ne-eqb (epact Gregorian y) 25 h)
 
-pub is-25 : (s : Style) (y : ℕ) → s ≡ Gregorian → epact s y ≡ 25 → arabic s y ≡ ltb 11 (golden y)
+pub is-25 : (c : Calendar) (y : ℕ) → c ≡ Gregorian → epact c y ≡ 25 → arabic c y ≡ ltb 11 (golden y)
 unfolding arabic
 is-25 Julian y g h = let z : _≡_ {A = ℕ} 0 1 = cc in absurd (omega arith)
 is-25 Gregorian y g h = rw (eq-eqb (epact Gregorian y) 25 h)

@@ -13,20 +13,22 @@ use Rattle.calendar.proofs.date.Laws.{answered}
 use Rattle.calendar.proofs.range.Laws.{range}
 use Rattle.calendar.proofs.span.Laws.{served-small, served-range, span-start, in-span-from}
 use Rattle.calendar.proofs.weekday.Laws.{is-later}
-use Rattle.calendar.specs.Date.{monthLength, daysOfMonths, isDate, dayNumber, dayInYear}
+use Rattle.calendar.specs.Date.{monthLength, daysOfMonths, isDate, dayNumber, dayInCalendar, dayInYear}
 use Rattle.calendar.specs.Range.{between}
 use Rattle.calendar.specs.Refusal.{_unless_, checked}
 use Rattle.calendar.specs.Span.{firstDay, inSpan, spanTests}
+use Rattle.calendar.specs.Style.{datesBy, easterBy}
 use Rattle.calendar.specs.Weekday.{weekday, sunday}
 use Rattle.calendar.specs.Year.{named, leap, newYear, YearOf, firstYear, served}
-use Rattle.church.proofs.easter.Laws.{easter-served, has-year, year-in-span, near, hung-in-year}
+use Rattle.church.proofs.easter.Laws.{easter-served, has-year, year-in-span, KeyFits, key-fits, near, hung-in-year}
 use Rattle.church.specs.Easter.{easter, hasEaster}
 use Rattle.church.specs.Feast.{Rule, hung, on, onOrInLeapYears, advent, rule, adventSunday, daysFrom, servedFor, dateExists}
 use Rattle.church.specs.Feast.{ruleNumber, ruleDay, feastInYear}
 use Rattle.calendar.specs.declared.refusal.Refusal.the-variants.{Year}
 use Rattle.calendar.specs.declared.span.DayAnswer.the-variants.{Day, NoDay}
 use Rattle.calendar.specs.declared.span.DayAnswer.{DayAnswer}
-use Rattle.calendar.specs.declared.style.Style.the-variants.{Julian, Gregorian}
+use Rattle.calendar.specs.declared.style.Calendar.the-variants.{Julian, Gregorian}
+use Rattle.calendar.specs.declared.style.Calendar.{Calendar}
 use Rattle.calendar.specs.declared.style.Style.{Style}
 use Rattle.calendar.specs.declared.weekday.Start.the-variants.{Counted}
 use Rattle.calendar.specs.declared.year.NamedYear.{NamedYear}
@@ -55,23 +57,23 @@ hung-tested i h = below (λ i. hung-as (rule (i + 1)) (getD fromEaster i 0)) 23 
 
 -- the day n, where the year has an Easter and the span has the day
 abbrev pub hungDay : NamedYear → ℕ → DayAnswer
-hungDay t n = checked NoDay (Day n) (Year unless hasEaster (t .style) (t .year) ∷ spanTests (t .style) n)
+hungDay t n = checked NoDay (Day n) (Year unless hasEaster (datesBy (t .style)) (t .year) ∷ spanTests (datesBy (t .style)) n)
 
 pub from-63 : (z : ℤ) (n : ℕ) → T (near z) → daysFrom z n ≡ n + daysFrom z 63 - 63
 from-63 (pos k) n h = omega arith
 from-63 (negsuc k) n h = omega (arith, leb→le k 62 h)
 
-hung-rule : (t : NamedYear) (r : Rule) (b : ℕ) → T (hung-as r b) → ruleDay t r ≡ hungDay t (easter (t .style) (t .year) + b - 63)
+hung-rule : (t : NamedYear) (r : Rule) (b : ℕ) → T (hung-as r b) → ruleDay t r ≡ hungDay t (easter (easterBy (t .style)) (t .year) + b - 63)
 unfolding hung-as
 hung-rule t (hung z) b h =
     let k = T-both (near z) (eqb (daysFrom z 63) b) h in
-    rw (← eqb→eq (daysFrom z 63) b (k .1), ← from-63 z (easter (t .style) (t .year)) (k .0))
+    rw (← eqb→eq (daysFrom z 63) b (k .1), ← from-63 z (easter (easterBy (t .style)) (t .year)) (k .0))
 hung-rule t (on d m) b h = absurd h
 hung-rule t (onOrInLeapYears d m d′ m′) b h = absurd h
 hung-rule t advent b h = absurd h
 
 pub hung-day : (t : NamedYear) (i : ℕ) → i < 23
-    → ruleDay t (rule (i + 1)) ≡ hungDay t (easter (t .style) (t .year) + getD fromEaster i 0 - 63)
+    → ruleDay t (rule (i + 1)) ≡ hungDay t (easter (easterBy (t .style)) (t .year) + getD fromEaster i 0 - 63)
 hung-day t i h = hung-rule t (rule (i + 1)) (getD fromEaster i 0) (hung-tested i h)
 
 small-test : ℕ → Bool
@@ -104,24 +106,24 @@ dated-tested : (b : Bool) (i : ℕ) → i < 24 → T (dated b (rule (i + 24)) (d
 unfolding dated
 dated-tested b i h = of-both (λ b i. dated b (rule (i + 24)) (dayOfMonth b i) (monthOf i)) 24 tt b i h
 
-dated-rule : (t : NamedYear) (r : Rule) (d m : ℕ) → T (dated (leap (t .style) (t .year)) r d m) → ruleDay t r ≡ dayInYear t m d
-unfolding dated dayInYear
+dated-rule : (t : NamedYear) (r : Rule) (d m : ℕ) → T (dated (leap (datesBy (t .style)) (t .year)) r d m) → ruleDay t r ≡ dayInYear t m d
+unfolding dated dayInCalendar
 dated-rule t (hung z) d m h = absurd h
 dated-rule t (on d′ m′) d m h =
     let b = T-both (eqb d′ d) (eqb m′ m) h in
     rw (eqb→eq d′ d (b .0), eqb→eq m′ m (b .1))
 dated-rule t (onOrInLeapYears d′ m′ d″ m″) d m h =
-    let s = t .style in
+    let c = datesBy (t .style) in
     let y = t .year in
-    let l = leap s y in
+    let l = leap c y in
     let b = T-both (eqb (cond l d″ d′) d) (eqb (cond l m″ m′) m) h in
-    rw (of-date (isDate s y) l d′ m′ d″ m″, of-date (dayNumber s y) l d′ m′ d″ m″, eqb→eq _ d (b .0), eqb→eq _ m (b .1))
+    rw (of-date (isDate c y) l d′ m′ d″ m″, of-date (dayNumber c y) l d′ m′ d″ m″, eqb→eq _ d (b .0), eqb→eq _ m (b .1))
 dated-rule t advent d m h = absurd h
 
 pub fixed-day : (t : NamedYear) (i : ℕ) → i < 24
-    → ruleDay t (rule (i + 24)) ≡ dayInYear t (monthOf i) (dayOfMonth (leap (t .style) (t .year)) i)
+    → ruleDay t (rule (i + 24)) ≡ dayInYear t (monthOf i) (dayOfMonth (leap (datesBy (t .style)) (t .year)) i)
 fixed-day t i h =
-    let l = leap (t .style) (t .year) in
+    let l = leap (datesBy (t .style)) (t .year) in
     dated-rule t (rule (i + 24)) (dayOfMonth l i) (monthOf i) (dated-tested l i h)
 
 small-date : ℕ → Bool
@@ -137,60 +139,59 @@ unfolding feastInYear
 in-table t f e = rw e
 
 -- a date lies in its year
-dated-in-year : (s : Style) (y m d : ℕ) → 1 ≤ y → isDate s y m d ≡ true → YearOf s (dayNumber s y m d) y
-dated-in-year s y m d one e = year-of s (dayNumber s y m d) y m d (record { year = one; date = date-bounds s y m d e; number = refl })
+dated-in-year : (c : Calendar) (y m d : ℕ) → 1 ≤ y → isDate c y m d ≡ true → YearOf c (dayNumber c y m d) y
+dated-in-year c y m d one e = year-of c (dayNumber c y m d) y m d (record { year = one; date = date-bounds c y m d e; number = refl })
 
 -- 27 November lies in the span in every served year
-november-27 : (s : Style) (y : ℕ) → newYear s y + 330 ≤ dayNumber s y 11 27
+november-27 : (c : Calendar) (y : ℕ) → newYear c y + 330 ≤ dayNumber c y 11 27
 unfolding dayNumber daysOfMonths
-november-27 s y = go (leap s y)
+november-27 c y = go (leap c y)
   where
-    go : (b : Bool) → newYear s y + 330 ≤ newYear s y + daysOfMonths b 10 + 26
+    go : (b : Bool) → newYear c y + 330 ≤ newYear c y + daysOfMonths b 10 + 26
     go true = omega arith
     go false = omega arith
 
-first-november : (s : Style) → firstDay s ≤ newYear s (firstYear s) + 330
+first-november : (c : Calendar) → firstDay c ≤ newYear c (firstYear c) + 330
 first-november Julian = omega (arith, span-start Julian)
 first-november Gregorian = omega (arith, span-start Gregorian)
 
-november-in-span : (s : Style) (y : ℕ) → served s y ≡ true → inSpan s (dayNumber s y 11 27) ≡ true
+november-in-span : (c : Calendar) (y : ℕ) → served c y ≡ true → inSpan c (dayNumber c y 11 27) ≡ true
 unfolding isDate between
-november-in-span s y r =
-    let e = served-range s y r in
-    let in-year = dated-in-year s y 11 27 (served-small s y r .0) refl in
-    in-span-from s (firstYear s) y 330 (dayNumber s y 11 27) (e .0) (e .1) (first-november s) (november-27 s y) (in-year .to)
+november-in-span c y r =
+    let e = served-range c y r in
+    let in-year = dated-in-year c y 11 27 (served-small c y r .0) refl in
+    in-span-from c (firstYear c) y 330 (dayNumber c y 11 27) (e .0) (e .1) (first-november c) (november-27 c y) (in-year .to)
 
-pub november-answer : (s : Style) (y : ℕ)
-    → dayInYear (named s y) 11 27 ≡ checked NoDay (Day (dayNumber s y 11 27)) (Year unless served s y ∷ [])
+pub november-answer : (c : Calendar) (y : ℕ)
+    → dayInCalendar c y 11 27 ≡ checked NoDay (Day (dayNumber c y 11 27)) (Year unless served c y ∷ [])
 unfolding isDate between
-november-answer s y = answered s y 11 27 refl (november-in-span s y)
+november-answer c y = answered c y 11 27 refl (november-in-span c y)
 
 -- the week from 27 November to 3 December
 november : (b : Bool) → daysOfMonths b 11 ≡ daysOfMonths b 10 + 30
 unfolding daysOfMonths
 november b = refl
 
-pub week-long : (s : Style) (y : ℕ) → dayNumber s y 12 3 ≡ dayNumber s y 11 27 + 6
+pub week-long : (c : Calendar) (y : ℕ) → dayNumber c y 12 3 ≡ dayNumber c y 11 27 + 6
 unfolding dayNumber
-week-long s y = omega (arith, november (leap s y))
+week-long c y = omega (arith, november (leap c y))
 
-pub advent-week : (s : Style) (y : ℕ)
-    → (weekday (adventSunday s y) ≡ sunday) × (dayNumber s y 11 27 ≤ adventSunday s y) × (adventSunday s y ≤ dayNumber s y 12 3)
+pub advent-week : (c : Calendar) (y : ℕ)
+    → (weekday (adventSunday c y) ≡ sunday) × (dayNumber c y 11 27 ≤ adventSunday c y) × (adventSunday c y ≤ dayNumber c y 12 3)
 unfolding adventSunday
-advent-week s y =
-    let f = is-later Counted sunday (dayNumber s y 11 27) (omega arith) (omega arith) in
-    let w = week-long s y in
+advent-week c y =
+    let f = is-later Counted sunday (dayNumber c y 11 27) (omega arith) (omega arith) in
+    let w = week-long c y in
     (f .2, omega arith, omega arith)
 
 -- Matthias lies five days before 1 March, whether or not the year is leap
-pub matthias-before-march : (s : Style) (y : ℕ) → ruleNumber (rule 27) s y + 5 ≡ dayNumber s y 3 1
+pub matthias-before-march : (s : Style) (y : ℕ) → ruleNumber (rule 27) s y + 5 ≡ dayNumber (datesBy s) y 3 1
 unfolding dayNumber daysOfMonths
-matthias-before-march s y = go (leap s y)
+matthias-before-march s y = go (newYear (datesBy s) y) (leap (datesBy s) y)
   where
-    go : (b : Bool)
-        → cond b (newYear s y + daysOfMonths b 1 + 24) (newYear s y + daysOfMonths b 1 + 23) + 5 ≡ newYear s y + daysOfMonths b 2 + 0
-    go true = omega arith
-    go false = omega arith
+    go : (n : ℕ) (b : Bool) → cond b (n + daysOfMonths b 1 + 24) (n + daysOfMonths b 1 + 23) + 5 ≡ n + daysOfMonths b 2 + 0
+    go n true = omega arith
+    go n false = omega arith
 
 -- a test that antt computes at each feast's number, and what it says at one of them
 of-number : (p : ℕ → Bool) → T (each (λ i. p (i + 1)) 48) → (f : ℕ) → between 1 f 48 ≡ true → T (p f)
@@ -219,48 +220,50 @@ unfolding good between
 rule-good true f e = of-number (λ f. good true (rule f)) tt f e
 rule-good false f e = of-number (λ f. good false (rule f)) tt f e
 
-date-exists : (r : Rule) (s : Style) (y : ℕ) → T (good (leap s y) r) → dateExists r s y ≡ true
+date-exists : (r : Rule) (c : Calendar) (y : ℕ) → T (good (leap c y) r) → dateExists r c y ≡ true
 unfolding good isDate
-date-exists (hung z) s y g = refl
-date-exists (on d m) s y g = is-true (between 1 m 12 && between 1 d (monthLength (leap s y) m)) g
-date-exists (onOrInLeapYears d m d′ m′) s y g = of-date (isDate s y) (leap s y) d m d′ m′ ∙ is-true _ g
-date-exists advent s y g = refl
+date-exists (hung z) c y g = refl
+date-exists (on d m) c y g = is-true (between 1 m 12 && between 1 d (monthLength (leap c y) m)) g
+date-exists (onOrInLeapYears d m d′ m′) c y g = of-date (isDate c y) (leap c y) d m d′ m′ ∙ is-true _ g
+date-exists advent c y g = refl
 
 -- Every feast has a date in every year, so that none is refused by 5.
-pub feast-date-exists : (s : Style) (y f : ℕ) → between 1 f 48 ≡ true → dateExists (rule f) s y ≡ true
-feast-date-exists s y f e = date-exists (rule f) s y (rule-good (leap s y) f e)
+pub feast-date-exists : (c : Calendar) (y f : ℕ) → between 1 f 48 ≡ true → dateExists (rule f) c y ≡ true
+feast-date-exists c y f e = date-exists (rule f) c y (rule-good (leap c y) f e)
 
 -- in a year that has an Easter every rule is served
-rule-served : (r : Rule) (s : Style) (y : ℕ) → hasEaster s y ≡ true → servedFor r s y ≡ true
-rule-served (hung z) s y h = h
-rule-served (on d m) s y h = easter-served s y h
-rule-served (onOrInLeapYears d m d′ m′) s y h = easter-served s y h
-rule-served advent s y h = easter-served s y h
+rule-served : (r : Rule) (c : Calendar) (y : ℕ) → hasEaster c y ≡ true → servedFor r c y ≡ true
+rule-served (hung z) c y h = h
+rule-served (on d m) c y h = easter-served c y h
+rule-served (onOrInLeapYears d m d′ m′) c y h = easter-served c y h
+rule-served advent c y h = easter-served c y h
 
 -- a rule's day lies in its year
-advent-in-year : (s : Style) (y : ℕ) → 1 ≤ y → YearOf s (adventSunday s y) y
+advent-in-year : (c : Calendar) (y : ℕ) → 1 ≤ y → YearOf c (adventSunday c y) y
 unfolding isDate between
-advent-in-year s y one =
-    let w = advent-week s y in
-    record { one = one; from = omega (arith, w, dated-in-year s y 11 27 one refl); to = omega (arith, w, dated-in-year s y 12 3 one refl) }
+advent-in-year c y one =
+    let w = advent-week c y in
+    record { one = one; from = omega (arith, w, dated-in-year c y 11 27 one refl); to = omega (arith, w, dated-in-year c y 12 3 one refl) }
 
-rule-in-year : (r : Rule) (s : Style) (y : ℕ) → 1 ≤ y → T (good (leap s y) r) → YearOf s (ruleNumber r s y) y
+rule-in-year : (r : Rule) (s : Style) (y : ℕ) → 1 ≤ y → KeyFits s y → T (good (leap (datesBy s) y) r) → YearOf (datesBy s) (ruleNumber r s y) y
 unfolding good isDate
-rule-in-year (hung z) s y one g = hung-in-year s y z one g
-rule-in-year (on d m) s y one g = dated-in-year s y m d one (date-exists (on d m) s y g)
-rule-in-year (onOrInLeapYears d m d′ m′) s y one g =
-    let l = leap s y in
-    rw (of-date (dayNumber s y) l d m d′ m′) (dated-in-year s y (cond l m′ m) (cond l d′ d) one (is-true _ g))
-rule-in-year advent s y one g = advent-in-year s y one
+rule-in-year (hung z) s y one fits g = hung-in-year s y z one fits g
+rule-in-year (on d m) s y one fits g = dated-in-year (datesBy s) y m d one (date-exists (on d m) (datesBy s) y g)
+rule-in-year (onOrInLeapYears d m d′ m′) s y one fits g =
+    let c = datesBy s in
+    let l = leap c y in
+    rw (of-date (dayNumber c y) l d m d′ m′) (dated-in-year c y (cond l m′ m) (cond l d′ d) one (is-true _ g))
+rule-in-year advent s y one fits g = advent-in-year (datesBy s) y one
 
--- Every feast lies in its year.
-pub feast-in-year : (s : Style) (y f : ℕ) → 1 ≤ y → between 1 f 48 ≡ true → YearOf s (ruleNumber (rule f) s y) y
-feast-in-year s y f one e = rule-in-year (rule f) s y one (rule-good (leap s y) f e)
+-- Every feast lies in its year, where the key lies from 1 to 108.
+pub feast-in-year : (s : Style) (y f : ℕ) → 1 ≤ y → KeyFits s y → between 1 f 48 ≡ true → YearOf (datesBy s) (ruleNumber (rule f) s y) y
+feast-in-year s y f one fits e = rule-in-year (rule f) s y one fits (rule-good (leap (datesBy s) y) f e)
 
-pub feast-answered : (s : Style) (y f : ℕ) → hasEaster s y ≡ true → between 1 f 48 ≡ true
+pub feast-answered : (s : Style) (y f : ℕ) → hasEaster (datesBy s) y ≡ true → between 1 f 48 ≡ true
     → feastInYear (named s y) f ≡ Day (ruleNumber (rule f) s y)
 unfolding feastInYear
 feast-answered s y f h e =
+    let c = datesBy s in
     let day = ruleNumber (rule f) s y in
-    let in-span = year-in-span s y day h (feast-in-year s y f (has-year s y h) e) in
-    rw (e, rule-served (rule f) s y h, feast-date-exists s y f e, in-span)
+    let in-span = year-in-span c y day h (feast-in-year s y f (has-year c y h) (key-fits s y h) e) in
+    rw (e, rule-served (rule f) c y h, feast-date-exists c y f e, in-span)

@@ -15,7 +15,7 @@ use Rattle.calendar.specs.Weekday.{weekday, sunday}
 use Rattle.calendar.specs.Year.{leap, newYear}
 use Rattle.church.specs.Easter.{march}
 use Rattle.church.specs.Letter.{letterAfter, letterOf, Part, first, second, inPart, SundayLetter}
-use Rattle.calendar.specs.declared.style.Style.{Style}
+use Rattle.calendar.specs.declared.style.Calendar.{Calendar}
 
 -- the leap day lies before the second part, and makes the first letter one later
 before : Part → Bool → ℕ
@@ -49,47 +49,47 @@ counted second b m d low high h =
     rw and-true at (leap-day b true (pred m) (omega arith) (lt-ltb 1 (pred m) (omega arith)))
 
 -- how far a date and 21 March are apart, told by the date's place in a common year
-placed : (s : Style) (y : ℕ) (p : Part) (m d : ℕ) → isDate s y m d ≡ true → inPart p m d ≡ true
-    → dayNumber s y m d + 79 + ahead p (leap s y) ≡ march s y 21 + (daysOfMonths false (pred m) + pred d)
+placed : (c : Calendar) (y : ℕ) (p : Part) (m d : ℕ) → isDate c y m d ≡ true → inPart p m d ≡ true
+    → dayNumber c y m d + 79 + ahead p (leap c y) ≡ march c y 21 + (daysOfMonths false (pred m) + pred d)
 unfolding dayNumber march
-placed s y p m d h g =
-    let b = date-bounds s y m d h in
-    omega (arith, leap-split p (leap s y), march-21 (leap s y), counted p (leap s y) m d (b .month-low) (b .month-high) g)
+placed c y p m d h g =
+    let b = date-bounds c y m d h in
+    omega (arith, leap-split p (leap c y), march-21 (leap c y), counted p (leap c y) m d (b .month-low) (b .month-high) g)
 
 -- the letter of the Sundays, with e for 21 March
 abbrev pub closed : Part → Bool → ℕ → ℕ
 closed p b e = letterAfter (8 + ahead p b - e % 7)
 
 -- the Sundays of each part of a year bear its letter, and no other day does
-pub borne : (s : Style) (y : ℕ) (p : Part) (m d : ℕ) → isDate s y m d ≡ true → inPart p m d ≡ true
-    → (weekday (dayNumber s y m d) ≡ sunday) ↔ (letterOf m d ≡ closed p (leap s y) (march s y 21))
-borne s y p m d h g =
-    let e = placed s y p m d h g in
-    let x = leap-split p (leap s y) in
+pub borne : (c : Calendar) (y : ℕ) (p : Part) (m d : ℕ) → isDate c y m d ≡ true → inPart p m d ≡ true
+    → (weekday (dayNumber c y m d) ≡ sunday) ↔ (letterOf m d ≡ closed p (leap c y) (march c y 21))
+borne c y p m d h g =
+    let e = placed c y p m d h g in
+    let x = leap-split p (leap c y) in
     (λ w. omega arith, λ l. omega arith)
 
-pub sundays : (s : Style) (y : ℕ) (p : Part) → SundayLetter s y p (closed p (leap s y) (march s y 21))
-sundays s y p m d h g w = borne s y p m d h g .0 w
+pub sundays : (c : Calendar) (y : ℕ) (p : Part) → SundayLetter c y p (closed p (leap c y) (march c y 21))
+sundays c y p m d h g w = borne c y p m d h g .0 w
 
 -- a month of each part with 31 days
 month : Part → ℕ
 month first = 1
 month second = 3
 
-in-month : (s : Style) (y : ℕ) (p : Part) (d : ℕ) → 1 ≤ d → d ≤ 7 → (isDate s y (month p) d ≡ true) × (inPart p (month p) d ≡ true)
+in-month : (c : Calendar) (y : ℕ) (p : Part) (d : ℕ) → 1 ≤ d → d ≤ 7 → (isDate c y (month p) d ≡ true) × (inPart p (month p) d ≡ true)
 unfolding month isDate between
-in-month s y first d low high = (rw (le-leb 1 d low, le-leb d 31 (omega arith)), refl)
-in-month s y second d low high = (rw (le-leb 1 d low, le-leb d 31 (omega arith)), refl)
+in-month c y first d low high = (rw (le-leb 1 d low, le-leb d 31 (omega arith)), refl)
+in-month c y second d low high = (rw (le-leb 1 d low, le-leb d 31 (omega arith)), refl)
 
-one-letter-at : (s : Style) (y : ℕ) (p : Part) (l d : ℕ) → 1 ≤ d → d ≤ 7 → weekday (dayNumber s y (month p) d) ≡ sunday → SundayLetter s y p l
-    → l ≡ closed p (leap s y) (march s y 21)
-one-letter-at s y p l d low high w h =
-    let i = in-month s y p d low high in
-    sym (h (month p) d (i .0) (i .1) w) ∙ sundays s y p (month p) d (i .0) (i .1) w
+one-letter-at : (c : Calendar) (y : ℕ) (p : Part) (l d : ℕ) → 1 ≤ d → d ≤ 7 → weekday (dayNumber c y (month p) d) ≡ sunday → SundayLetter c y p l
+    → l ≡ closed p (leap c y) (march c y 21)
+one-letter-at c y p l d low high w h =
+    let i = in-month c y p d low high in
+    sym (h (month p) d (i .0) (i .1) w) ∙ sundays c y p (month p) d (i .0) (i .1) w
 
 -- each part of a year has a Sunday, so its letter is the only one
-pub one-letter : (s : Style) (y : ℕ) (p : Part) (l : ℕ) → SundayLetter s y p l → l ≡ closed p (leap s y) (march s y 21)
+pub one-letter : (c : Calendar) (y : ℕ) (p : Part) (l : ℕ) → SundayLetter c y p l → l ≡ closed p (leap c y) (march c y 21)
 unfolding dayNumber
-one-letter s y p l h =
-    let n = newYear s y + daysOfMonths (leap s y) (pred (month p)) in
-    one-letter-at s y p l (7 - n % 7) (omega arith) (omega arith) (omega arith) h
+one-letter c y p l h =
+    let n = newYear c y + daysOfMonths (leap c y) (pred (month p)) in
+    one-letter-at c y p l (7 - n % 7) (omega arith) (omega arith) (omega arith) h

@@ -13,7 +13,7 @@ use Rattle.calendar.proofs.Table.{All, none, _also_}
 use Rattle.church.proofs.Primes.{prime}
 use Rattle.church.proofs.Returns.{multiple, least}
 use Rattle.church.proofs.arithmetic.Laws.{z, z-closed, epact-sum}
-use Rattle.church.proofs.easter.Laws.{equinox-weekday, march-21, easter-facts, key-closed}
+use Rattle.church.proofs.easter.Laws.{equinox-weekday, march-21, easter-facts, key-range, key-closed, key-counts}
 use Rattle.church.proofs.epact.Laws.{golden-range}
 use Rattle.church.proofs.feast.Laws.{from-63, of-date, good, rule-good, week-long, advent-week}
 use Rattle.church.proofs.letter.Laws as letter-laws
@@ -21,6 +21,7 @@ use Rattle.calendar.specs.Date.{daysOfMonths, dayNumber}
 use Rattle.calendar.specs.Range.{between}
 use Rattle.calendar.specs.Return.{ReturnsAfter, DiffersAfter, weekdayPeriod}
 use Rattle.calendar.specs.Search.{firstOf}
+use Rattle.calendar.specs.Style.{datesBy, easterBy, wholly}
 use Rattle.calendar.specs.Weekday.{weekday}
 use Rattle.calendar.specs.Year.{leap, newYear}
 use Rattle.church.specs.Column.{stands, luna}
@@ -29,78 +30,91 @@ use Rattle.church.specs.Epact.{golden, hundreds, epact, arabic}
 use Rattle.church.specs.Feast.{Rule, hung, on, onOrInLeapYears, advent, rule, adventSunday, ruleNumber}
 use Rattle.church.specs.Letter.{Part, SundayLetter}
 use Rattle.church.specs.Period.{period, shorter, correction, equinoxWeekday, keyBy, SameLetters, SameFeasts, TablesReturn}
-use Rattle.calendar.specs.declared.style.Style.the-variants.{Julian, Gregorian}
+use Rattle.calendar.specs.declared.style.Calendar.the-variants.{Julian, Gregorian}
+use Rattle.calendar.specs.declared.style.Calendar.{Calendar}
+use Rattle.calendar.specs.declared.style.Style.the-variants.{J, G}
 use Rattle.calendar.specs.declared.style.Style.{Style}
 
 -- The epact, whether it is the Arabic 25 and the limit depend on the golden number and, in G, on the hundreds by their correction alone.
-pub epact-closed : (s : Style) (y : ℕ) → epact s y ≡ (11 * golden y + 30 - correction s y) % 30
+pub epact-closed : (c : Calendar) (y : ℕ) → epact c y ≡ (11 * golden y + 30 - correction c y) % 30
 unfolding epact
 epact-closed Julian y = omega arith
 epact-closed Gregorian y = rw (z-closed (hundreds y)) (epact-sum (golden y) (hundreds y) (golden-range y .0))
 
-same-arabic : (s : Style) (y y′ : ℕ) → golden y ≡ golden y′ → epact s y ≡ epact s y′ → arabic s y ≡ arabic s y′
+same-arabic : (c : Calendar) (y y′ : ℕ) → golden y ≡ golden y′ → epact c y ≡ epact c y′ → arabic c y ≡ arabic c y′
 unfolding arabic
 same-arabic Julian y y′ g e = refl
 same-arabic Gregorian y y′ g e = rw (e, g)
 
-pub same-limit : (s : Style) (y y′ : ℕ) → golden y ≡ golden y′ → correction s y ≡ correction s y′
-    → (epact s y ≡ epact s y′) × (arabic s y ≡ arabic s y′) × (limit s y ≡ limit s y′)
+pub same-limit : (c : Calendar) (y y′ : ℕ) → golden y ≡ golden y′ → correction c y ≡ correction c y′
+    → (epact c y ≡ epact c y′) × (arabic c y ≡ arabic c y′) × (limit c y ≡ limit c y′)
 unfolding limit luna
-same-limit s y y′ g c =
-    let e : epact s y ≡ epact s y′ = rw (epact-closed s y, epact-closed s y′, g, c) in
-    let a = same-arabic s y y′ g e in
+same-limit c y y′ g by =
+    let e : epact c y ≡ epact c y′ = rw (epact-closed c y, epact-closed c y′, g, by) in
+    let a = same-arabic c y y′ g e in
     (e, a, rw (e, a))
 
 -- The key depends on the limit and on the weekday of 21 March alone; the years may be of two styles, here and below.
-pub same-key : (s s′ : Style) (y y′ : ℕ) → limit s y ≡ limit s′ y′ → weekday (march s y 21) ≡ weekday (march s′ y′ 21) → key s y ≡ key s′ y′
-same-key s s′ y y′ l w = rw (key-closed s y, key-closed s′ y′, l, w)
+pub same-key : (c c′ : Calendar) (y y′ : ℕ) → limit c y ≡ limit c′ y′ → weekday (march c y 21) ≡ weekday (march c′ y′ 21) → key (wholly c) y ≡ key (wholly c′) y′
+same-key c c′ y y′ l w = rw (key-closed c y, key-closed c′ y′, l, w)
 
 -- The Sunday letters depend on whether the year is leap and on the weekday of 21 March alone.
-letters-kept : (s s′ : Style) (y y′ : ℕ) → leap s y ≡ leap s′ y′ → weekday (march s y 21) ≡ weekday (march s′ y′ 21)
-    → (p : Part) (l : ℕ) → SundayLetter s y p l → SundayLetter s′ y′ p l
-letters-kept s s′ y y′ both w p l h =
-    let rest : march s y 21 % 7 ≡ march s′ y′ 21 % 7 = omega (arith, w) in
-    rw (letter-laws.one-letter s y p l h, both, rest) (letter-laws.sundays s′ y′ p)
+letters-kept : (c c′ : Calendar) (y y′ : ℕ) → leap c y ≡ leap c′ y′ → weekday (march c y 21) ≡ weekday (march c′ y′ 21)
+    → (p : Part) (l : ℕ) → SundayLetter c y p l → SundayLetter c′ y′ p l
+letters-kept c c′ y y′ both w p l h =
+    let rest : march c y 21 % 7 ≡ march c′ y′ 21 % 7 = omega (arith, w) in
+    rw (letter-laws.one-letter c y p l h, both, rest) (letter-laws.sundays c′ y′ p)
 
-pub same-letters : (s s′ : Style) (y y′ : ℕ) → leap s y ≡ leap s′ y′ → weekday (march s y 21) ≡ weekday (march s′ y′ 21) → SameLetters s s′ y y′
-same-letters s s′ y y′ both w p l = (letters-kept s s′ y y′ both w p l, letters-kept s′ s y′ y (sym both) (sym w) p l)
+pub same-letters : (c c′ : Calendar) (y y′ : ℕ) → leap c y ≡ leap c′ y′ → weekday (march c y 21) ≡ weekday (march c′ y′ 21) → SameLetters c c′ y y′
+same-letters c c′ y y′ both w p l = (letters-kept c c′ y y′ both w p l, letters-kept c′ c y′ y (sym both) (sym w) p l)
 
--- The feasts' days of the year depend on whether the year is leap and on the key alone.
-module _ (s s′ : Style) (y y′ : ℕ) (both : leap s y ≡ leap s′ y′) (one-key : key s y ≡ key s′ y′) where
-  same-date : (m d : ℕ) → dayNumber s y m d - newYear s y ≡ dayNumber s′ y′ m d - newYear s′ y′
+-- The feasts' days of the year depend on whether the year is leap and on the key alone, where that counts from 21 March to Easter.
+module _ (s s′ : Style) (y y′ : ℕ) (both : leap (datesBy s) y ≡ leap (datesBy s′) y′) (one-key : key s y ≡ key s′ y′) (some : 1 ≤ key s y) where
+  same-date : (m d : ℕ) → dayNumber (datesBy s) y m d - newYear (datesBy s) y ≡ dayNumber (datesBy s′) y′ m d - newYear (datesBy s′) y′
   unfolding dayNumber
   same-date m d = rw both (omega arith)
 
   same-in-leap-years : (d m d′ m′ : ℕ)
-      → cond (leap s y) (dayNumber s y m′ d′) (dayNumber s y m d) - newYear s y
-      ≡ cond (leap s′ y′) (dayNumber s′ y′ m′ d′) (dayNumber s′ y′ m d) - newYear s′ y′
+      → let c = datesBy s in
+      let c′ = datesBy s′ in
+      cond (leap c y) (dayNumber c y m′ d′) (dayNumber c y m d) - newYear c y
+      ≡ cond (leap c′ y′) (dayNumber c′ y′ m′ d′) (dayNumber c′ y′ m d) - newYear c′ y′
   same-in-leap-years d m d′ m′ =
-      rw (of-date (dayNumber s y) (leap s y) d m d′ m′, of-date (dayNumber s′ y′) (leap s′ y′) d m d′ m′, ← both)
-      (same-date (cond (leap s y) m′ m) (cond (leap s y) d′ d))
+      let c = datesBy s in
+      let c′ = datesBy s′ in
+      rw (of-date (dayNumber c y) (leap c y) d m d′ m′, of-date (dayNumber c′ y′) (leap c′ y′) d m d′ m′, ← both)
+      (same-date (cond (leap c y) m′ m) (cond (leap c y) d′ d))
 
-  same-advent : adventSunday s y - newYear s y ≡ adventSunday s′ y′ - newYear s′ y′
+  counts′ : march (datesBy s′) y′ 21 + key s y ≡ easter (easterBy s′) y′
+  counts′ = rw one-key (key-counts s′ y′ (rw one-key at some))
+
+  same-advent : adventSunday (datesBy s) y - newYear (datesBy s) y ≡ adventSunday (datesBy s′) y′ - newYear (datesBy s′) y′
   unfolding march dayNumber
   same-advent =
-      let rest : march s y 21 % 7 ≡ march s′ y′ 21 % 7 = omega (arith, easter-facts s y, easter-facts s′ y′) in
+      let c = datesBy s in
+      let c′ = datesBy s′ in
+      let sunday = easter-facts (easterBy s) y .falls in
+      let sunday′ = easter-facts (easterBy s′) y′ .falls in
+      let rest : march c y 21 % 7 ≡ march c′ y′ 21 % 7 = omega (arith, sunday, sunday′, key-counts s y some, counts′) in
       let spring = ap (λ b. daysOfMonths b 2) both in
       let autumn = ap (λ b. daysOfMonths b 10) both in
-      omega (arith, rest, advent-week s y, week-long s y, advent-week s′ y′, week-long s′ y′)
+      omega (arith, rest, advent-week c y, week-long c y, advent-week c′ y′, week-long c′ y′)
 
-  same-rule : (r : Rule) → T (good (leap s y) r) → ruleNumber r s y - newYear s y ≡ ruleNumber r s′ y′ - newYear s′ y′
+  same-rule : (r : Rule) → T (good (leap (datesBy s) y) r) → ruleNumber r s y - newYear (datesBy s) y ≡ ruleNumber r s′ y′ - newYear (datesBy s′) y′
   unfolding good march dayNumber
   same-rule (hung k) g =
-      let b = leap s y in
-      let from-new-year : newYear s y + daysOfMonths b 2 + 20 + key s y ≡ easter s y = easter-facts s y .by-key in
-      let from-new-year′ : newYear s′ y′ + daysOfMonths b 2 + 20 + key s y ≡ easter s′ y′ = rw (one-key, both) (easter-facts s′ y′ .by-key) in
-      rw (from-63 k (easter s y) g, from-63 k (easter s′ y′) g, ← from-new-year, ← from-new-year′) (omega (arith, march-21 b))
+      let b = leap (datesBy s) y in
+      let from-new-year : newYear (datesBy s) y + daysOfMonths b 2 + 20 + key s y ≡ easter (easterBy s) y = key-counts s y some in
+      let from-new-year′ : newYear (datesBy s′) y′ + daysOfMonths b 2 + 20 + key s y ≡ easter (easterBy s′) y′ = rw both counts′ in
+      rw (from-63 k (easter (easterBy s) y) g, from-63 k (easter (easterBy s′) y′) g, ← from-new-year, ← from-new-year′) (omega (arith, march-21 b))
   same-rule (on d m) g = same-date m d
   same-rule (onOrInLeapYears d m d′ m′) g = same-in-leap-years d m d′ m′
   same-rule advent g = same-advent
 
   pub same-feasts : SameFeasts s s′ y y′
-  same-feasts f e = ap (λ (n : ℕ). n + 1) (same-rule (rule f) (rule-good (leap s y) f e))
+  same-feasts f e = ap (λ (n : ℕ). n + 1) (same-rule (rule f) (rule-good (leap (datesBy s) y) f e))
 
-golden-returns : (s : Style) → ReturnsAfter (period s) golden
+golden-returns : (c : Calendar) → ReturnsAfter (period c) golden
 unfolding golden
 golden-returns Julian y h = omega arith
 golden-returns Gregorian y h = omega arith
@@ -112,7 +126,7 @@ z-grows c =
     let moon : (8 * (c + 57000) + 13) / 25 ≡ (8 * c + 13) / 25 + 18240 = omega arith in
     rw (sun, moon) (omega arith)
 
-correction-returns : (s : Style) → ReturnsAfter (period s) (correction s)
+correction-returns : (c : Calendar) → ReturnsAfter (period c) (correction c)
 correction-returns Julian y h = refl
 correction-returns Gregorian y h =
     let c = hundreds y in
@@ -120,70 +134,74 @@ correction-returns Gregorian y h =
     rw (later, z-closed (c + 57000), z-closed c, z-grows c) (omega arith)
 
 -- what returns after the weekdays' period returns after the period
-whole-periods : (s : Style) → period s / weekdayPeriod s * weekdayPeriod s ≡ period s
+whole-periods : (c : Calendar) → period c / weekdayPeriod c * weekdayPeriod c ≡ period c
 whole-periods Julian = refl
 whole-periods Gregorian = refl
 
-in-period : {A : Type 0} (s : Style) (has : ℕ → A) → ReturnsAfter (weekdayPeriod s) has → ReturnsAfter (period s) has
-in-period s has r = rw (whole-periods s) at (multiple has (weekdayPeriod s) (period s / weekdayPeriod s) r)
+in-period : {A : Type 0} (c : Calendar) (has : ℕ → A) → ReturnsAfter (weekdayPeriod c) has → ReturnsAfter (period c) has
+in-period c has r = rw (whole-periods c) at (multiple has (weekdayPeriod c) (period c / weekdayPeriod c) r)
 
-leap-in-period : (s : Style) → ReturnsAfter (period s) (leap s)
-leap-in-period s = in-period s (leap s) (leap-years-return s)
+leap-in-period : (c : Calendar) → ReturnsAfter (period c) (leap c)
+leap-in-period c = in-period c (leap c) (leap-years-return c)
 
-equinox-returns : (s : Style) → ReturnsAfter (weekdayPeriod s) (λ y. weekday (march s y 21))
+equinox-returns : (c : Calendar) → ReturnsAfter (weekdayPeriod c) (λ y. weekday (march c y 21))
 unfolding march
-equinox-returns s = weekdays-return s 3 21
+equinox-returns c = weekdays-return c 3 21
 
-equinox-in-period : (s : Style) → ReturnsAfter (period s) (λ y. weekday (march s y 21))
-equinox-in-period s = in-period s (λ y. weekday (march s y 21)) (equinox-returns s)
+equinox-in-period : (c : Calendar) → ReturnsAfter (period c) (λ y. weekday (march c y 21))
+equinox-in-period c = in-period c (λ y. weekday (march c y 21)) (equinox-returns c)
 
-pub letters-return : (s : Style) (y : ℕ) → 1 ≤ y → SameLetters s s (y + weekdayPeriod s) y
-letters-return s y h = same-letters s s (y + weekdayPeriod s) y (leap-years-return s y h) (equinox-returns s y h)
+pub letters-return : (c : Calendar) (y : ℕ) → 1 ≤ y → SameLetters c c (y + weekdayPeriod c) y
+letters-return c y h = same-letters c c (y + weekdayPeriod c) y (leap-years-return c y h) (equinox-returns c y h)
 
 -- the limit returns, with the epact and whether it is the Arabic 25
-limit-returns : (s : Style) (y : ℕ) → 1 ≤ y
-    → let y′ = y + period s in
-    (epact s y′ ≡ epact s y) × (arabic s y′ ≡ arabic s y) × (limit s y′ ≡ limit s y)
-limit-returns s y h = same-limit s (y + period s) y (golden-returns s y h) (correction-returns s y h)
+limit-returns : (c : Calendar) (y : ℕ) → 1 ≤ y
+    → let y′ = y + period c in
+    (epact c y′ ≡ epact c y) × (arabic c y′ ≡ arabic c y) × (limit c y′ ≡ limit c y)
+limit-returns c y h = same-limit c (y + period c) y (golden-returns c y h) (correction-returns c y h)
 
-pub keys-return : (s : Style) → ReturnsAfter (period s) (key s)
-keys-return s y h = same-key s s (y + period s) y (limit-returns s y h .2) (equinox-in-period s y h)
+pub keys-return : (c : Calendar) → ReturnsAfter (period c) (key (wholly c))
+keys-return c y h = same-key c c (y + period c) y (limit-returns c y h .2) (equinox-in-period c y h)
 
-pub tables-return : (s : Style) → TablesReturn s (period s)
-tables-return s =
+whole-feasts : (c : Calendar) (y y′ : ℕ) → leap c y ≡ leap c y′ → key (wholly c) y ≡ key (wholly c) y′ → SameFeasts (wholly c) (wholly c) y y′
+whole-feasts Julian y y′ both one-key = same-feasts J J y y′ both one-key (key-range Julian y .0)
+whole-feasts Gregorian y y′ both one-key = same-feasts G G y y′ both one-key (key-range Gregorian y .0)
+
+pub tables-return : (c : Calendar) → TablesReturn c (period c)
+tables-return c =
     record {
-      leap-years = leap-in-period s;
-      golden-numbers = golden-returns s;
-      epacts = λ y h. limit-returns s y h .0;
-      arabics = λ y h. limit-returns s y h .1;
-      letters = λ y h. same-letters s s (y + period s) y (leap-in-period s y h) (equinox-in-period s y h);
-      limits = λ y h. limit-returns s y h .2;
-      keys = keys-return s;
-      feasts = λ y h. same-feasts s s (y + period s) y (leap-in-period s y h) (keys-return s y h);
+      leap-years = leap-in-period c;
+      golden-numbers = golden-returns c;
+      epacts = λ y h. limit-returns c y h .0;
+      arabics = λ y h. limit-returns c y h .1;
+      letters = λ y h. same-letters c c (y + period c) y (leap-in-period c y h) (equinox-in-period c y h);
+      limits = λ y h. limit-returns c y h .2;
+      keys = keys-return c;
+      feasts = λ y h. whole-feasts c (y + period c) y (leap-in-period c y h) (keys-return c y h);
     }
 
 -- the key of a year from 1 on with no year counted
-keyNumber : Style → ℕ → ℕ
-keyNumber s y = keyBy (limit s y) (equinoxWeekday s y)
+keyNumber : Calendar → ℕ → ℕ
+keyNumber c y = keyBy (limit c y) (equinoxWeekday c y)
 
-key-number : (s : Style) (y : ℕ) → 1 ≤ y → key s y ≡ keyNumber s y
+key-number : (c : Calendar) (y : ℕ) → 1 ≤ y → key (wholly c) y ≡ keyNumber c y
 unfolding keyNumber
-key-number s y h = rw (key-closed s y, equinox-weekday s y h)
+key-number c y h = rw (key-closed c y, equinox-weekday c y h)
 
 -- the year 1 has another key than the year k years later
-differs : (s : Style) (k : ℕ) → T (not (eqb (keyNumber s (1 + k)) (keyNumber s 1))) → DiffersAfter k (key s)
-differs s k t =
-    (1, omega arith, λ e. rw (eq-eqb _ _ (sym (key-number s (1 + k) (omega arith)) ∙ e ∙ key-number s 1 (omega arith))) at t)
+differs : (c : Calendar) (k : ℕ) → T (not (eqb (keyNumber c (1 + k)) (keyNumber c 1))) → DiffersAfter k (key (wholly c))
+differs c k t =
+    (1, omega arith, λ e. rw (eq-eqb _ _ (sym (key-number c (1 + k) (omega arith)) ∙ e ∙ key-number c 1 (omega arith))) at t)
 
-pub keys-differ : (s : Style) → All (λ k. DiffersAfter k (key s)) (shorter s)
+pub keys-differ : (c : Calendar) → All (λ k. DiffersAfter k (key (wholly c))) (shorter c)
 unfolding keyNumber limit luna epact arabic golden stands firstOf between
 keys-differ Julian = differs Julian _ tt also differs Julian _ tt also differs Julian _ tt also none
 keys-differ Gregorian = differs Gregorian _ tt also differs Gregorian _ tt also differs Gregorian _ tt also differs Gregorian _ tt also none
 
-least-period : (s : Style) (k : ℕ) → ReturnsAfter k (key s) → period s ∣ k
+least-period : (c : Calendar) (k : ℕ) → ReturnsAfter k (key (wholly c)) → period c ∣ k
 unfolding prime
-least-period Julian = least (key Julian) (2 ∷ 7 ∷ 19 ∷ []) 5 _ tt (dvd-of-mod-eq-zero _ refl) (keys-return Julian) (keys-differ Julian)
-least-period Gregorian = least (key Gregorian) (2 ∷ 3 ∷ 5 ∷ 19 ∷ []) 5 _ tt (dvd-of-mod-eq-zero _ refl) (keys-return Gregorian) (keys-differ Gregorian)
+least-period Julian = least (key (wholly Julian)) (2 ∷ 7 ∷ 19 ∷ []) 5 _ tt (dvd-of-mod-eq-zero _ refl) (keys-return Julian) (keys-differ Julian)
+least-period Gregorian = least (key (wholly Gregorian)) (2 ∷ 3 ∷ 5 ∷ 19 ∷ []) 5 _ tt (dvd-of-mod-eq-zero _ refl) (keys-return Gregorian) (keys-differ Gregorian)
 
-pub key-period : (s : Style) (k : ℕ) → ReturnsAfter k (key s) ↔ (period s ∣ k)
-key-period s k = (least-period s k, λ d. rw (div-mul-cancel (period s) d) at (multiple (key s) (period s) (k / period s) (keys-return s)))
+pub key-period : (c : Calendar) (k : ℕ) → ReturnsAfter k (key (wholly c)) ↔ (period c ∣ k)
+key-period c k = (least-period c k, λ d. rw (div-mul-cancel (period c) d) at (multiple (key (wholly c)) (period c) (k / period c) (keys-return c)))

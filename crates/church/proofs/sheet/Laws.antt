@@ -10,6 +10,7 @@ use Rattle.church.specs.Easter.{hasEaster, easterTests}
 use Rattle.church.specs.Letter.{first, second}
 use Rattle.church.specs.Sheet.{IsSheet, IsSheetOf, IsSheetInYear}
 use Rattle.calendar.specs.Refusal.{_unless_, checked}
+use Rattle.calendar.specs.Style.{datesBy}
 use Rattle.calendar.specs.declared.refusal.Refusal.the-variants.{Year}
 use Rattle.calendar.specs.declared.style.Style.{Style}
 use Rattle.calendar.specs.declared.year.NamedYear.{NamedYear}
@@ -26,8 +27,8 @@ one-sheet s y r r′ h h′ =
       arabic = (h .its-arabic ∙ sym (h′ .its-arabic)) i;
       letters =
           record {
-            first = (one-letter s y first _ (h .its-first) ∙ sym (one-letter s y first _ (h′ .its-first))) i;
-            second = (one-letter s y second _ (h .its-second) ∙ sym (one-letter s y second _ (h′ .its-second))) i;
+            first = (one-letter (datesBy s) y first _ (h .its-first) ∙ sym (one-letter (datesBy s) y first _ (h′ .its-first))) i;
+            second = (one-letter (datesBy s) y second _ (h .its-second) ∙ sym (one-letter (datesBy s) y second _ (h′ .its-second))) i;
           };
       limit = (h .its-limit ∙ sym (h′ .its-limit)) i;
       key = (h .its-key ∙ sym (h′ .its-key)) i;
@@ -41,11 +42,11 @@ one-of t (NoSheet x) b h h′ = absurd h
 
 -- Any two answers that the year sheet may give are equal, in a style.
 pub one-answer-in-year : (t : NamedYear) (r r′ : SheetAnswer) → IsSheetInYear t r → IsSheetInYear t r′ → r ≡ r′
-one-answer-in-year t r r′ h h′ = both-checked (easterTests t) (λ x (p : r ≡ NoSheet x) (q : r′ ≡ NoSheet x). p ∙ sym q) (one-of t r r′) h h′
+one-answer-in-year t r r′ h h′ = both-checked (easterTests (datesBy (t .style)) (t .year)) (λ x (p : r ≡ NoSheet x) (q : r′ ≡ NoSheet x). p ∙ sym q) (one-of t r r′) h h′
 
 -- A sheet that is answered is its year's.
 pub answered-sheet : (t : NamedYear) (r : YearSheet) → IsSheetInYear t (Sheet r) → IsSheet (t .style) (t .year) r
-answered-sheet t r h = go (hasEaster (t .style) (t .year)) h
+answered-sheet t r h = go (hasEaster (datesBy (t .style)) (t .year)) h
   where
     go : (has : Bool) → checked (λ x. Sheet r ≡ NoSheet x) (IsSheet (t .style) (t .year) r) (Year unless has ∷ []) → IsSheet (t .style) (t .year) r
     go true h = h

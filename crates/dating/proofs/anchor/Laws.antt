@@ -14,7 +14,7 @@ use Rattle.words.proofs.Told.{OneReading, number-told, number-untold}
 use Rattle.words.proofs.numeral.Laws.{one-number, numeral-lacks, numeral-length, numeral-digits, two-digits}
 use Rattle.words.proofs.text.Laws.{no-false, has-append, has-here, one-cut}
 use Rattle.words.proofs.word.Laws.{feast-length, feast-first, feast-lacks-space, feast-lacks-point, one-feast}
-use Rattle.calendar.specs.Date.{dayInYear}
+use Rattle.calendar.specs.Date.{dayInCalendar, dayInYear}
 use Rattle.church.specs.Feast.{feastInYear}
 use Rattle.words.specs.Numeral.{numeral, numerals}
 use Rattle.words.specs.Text.{space, point, has}
@@ -97,7 +97,7 @@ module _ (t : NamedYear) (s : List ℕ) where
     no-feast high z = no-anchor (number-untold f told z) (λ d m k. omega (arith, day-byte d m 0 k (numeral-length d .0)))
 
     pub feast-told : 0 < f → Tells (feastInYear t f)
-    unfolding spellAnchor GoodAnchor feastInYear
+    unfolding spellAnchor GoodAnchor anchorDay feastInYear
     feast-told h =
         let n = number-told f told h in
         produced (feast f) (n .0) (n .1) (rw (in-range 1 f 48 (n .0 .0) (n .0 .1)))
@@ -136,7 +136,7 @@ module _ (t : NamedYear) (s : List ℕ) where
 
     pub date-told : (d m : ℕ) → getD s e 0 ≡ point → Told (numerals 31) (λ n. n) 0 (take e s) d → 0 < d
         → Told (numerals 12) (λ n. n) 0 (drop (e + 1) s) m → 0 < m → Tells (dayInYear t m d)
-    unfolding spellAnchor GoodAnchor dayInYear
+    unfolding spellAnchor GoodAnchor anchorDay dayInCalendar
     date-told d m p td hd tm hm =
         let nd = number-told d td hd in
         let nm = number-told m tm hm in

@@ -15,6 +15,7 @@ use Rattle.dating.proofs.writer.Laws as writer-laws
 use Rattle.dating.proofs.writer.Laws.{put-on, put-length, put-byte, field-length}
 use Rattle.calendar.specs.Refusal.{refusalNumber}
 use Rattle.calendar.specs.Span.{inSpan}
+use Rattle.calendar.specs.Style.{datesBy}
 use Rattle.calendar.specs.Weekday.{weekday, weekdayInStyle, weekdayOrZero}
 use Rattle.words.specs.Numeral.{field}
 use Rattle.words.specs.Text.{space}
@@ -23,6 +24,7 @@ use Rattle.dating.specs.Steps.{Put, PutsDate, PutsDated, ReadFrom}
 use Rattle.calendar.specs.declared.refusal.Refusal.the-variants.{Length}
 use Rattle.calendar.specs.declared.refusal.Refusal.{Refusal}
 use Rattle.calendar.specs.declared.span.DayAnswer.the-variants.{Day, NoDay}
+use Rattle.calendar.specs.declared.style.Calendar.{Calendar}
 use Rattle.calendar.specs.declared.style.Style.{Style}
 
 -- ---- texts
@@ -33,11 +35,11 @@ pub refused-length : (x : Refusal) → length (refusedText x) ≡ 2
 refused-length x = digit-field (refusalNumber x) lineFeed (omega (arith, refusal-digit x))
 
 -- ---- the text of a day
-module _ (s : Style) (n : ℕ) (h : inSpan s n ≡ true) where
-  pub its-weekday : weekdayOrZero (weekdayInStyle s n) ≡ weekday n
-  its-weekday = rw h
+pub its-weekday : (s : Style) (n : ℕ) → inSpan (datesBy s) n ≡ true → weekdayOrZero (weekdayInStyle s n) ≡ weekday n
+its-weekday s n h = rw h
 
-  -- room for the fields before the date
+-- room for the fields before the date
+module _ (c : Calendar) (n : ℕ) (h : inSpan c n ≡ true) where
   pub fields-length : (length (field 0 space) + length (field n space) + length (field (weekday n) space) ≤ 12)
       × ((2 ≤ length (dayFields n)) × (length (dayFields n) ≤ 12))
   fields-length =
@@ -45,7 +47,7 @@ module _ (s : Style) (n : ℕ) (h : inSpan s n ≡ true) where
       let both = length-append (field 0 space) (field n space) in
       let zero = digit-field 0 space (omega arith) in
       let day = field-length n space in
-      let seven = seven-digits n (omega (arith, span-small s n h)) in
+      let seven = seven-digits n (omega (arith, span-small c n h)) in
       let on-weekday = digit-field (weekday n) space (omega arith) in
       (omega arith, (omega arith, omega arith))
 
@@ -56,9 +58,9 @@ module _ (s : Style) (n : ℕ) {before c d : List ℕ} {i j k : ℕ} (p : Put be
       (dayFields n ++ w ++ lineFeed ∷ [], ((w, (q .1 .0, refl)), put-on (put-on p (q .1 .1)) (put-byte d k lineFeed)))
 
   -- room for the line feed
-  pub feed-room : inSpan s n ≡ true → i + 25 ≤ length before → k < length d
+  pub feed-room : inSpan (datesBy s) n ≡ true → i + 25 ≤ length before → k < length d
   feed-room h room =
-      let head = fields-length s n h .1 in
+      let head = fields-length (datesBy s) n h .1 in
       let date = writer-laws.text-length s n (q .0) (q .1 .0) in
       let same = put-length (q .1 .1) ∙ put-length p in
       omega (arith, p .behind, q .1 .1 .behind)
@@ -78,7 +80,7 @@ dated-length s n t (w, (date, e)) =
     let all = ap length e in
     let front = length-append (dayFields n ++ w) (lineFeed ∷ []) in
     let both = length-append (dayFields n) w in
-    let head = fields-length s n (span-of s n (date .year) (date .month) (date .day) (date .is-date) .0) .1 in
+    let head = fields-length (datesBy s) n (span-of (datesBy s) n (date .year) (date .month) (date .day) (date .is-date) .0) .1 in
     let few = writer-laws.text-length s n w date in
     (omega arith, omega arith)
 

@@ -18,7 +18,7 @@ use Rattle.dating.proofs.anchor.Laws.{three-bytes}
 use Rattle.dating.proofs.phrase.Laws.{one-phrase, phrase-in-span}
 use Rattle.calendar.specs.Range.{between}
 use Rattle.calendar.specs.Span.{inSpan}
-use Rattle.calendar.specs.Style.{styleLetter}
+use Rattle.calendar.specs.Style.{styleLetter, datesBy}
 use Rattle.calendar.specs.Year.{named}
 use Rattle.words.specs.Numeral.{numeral, numerals}
 use Rattle.words.specs.Text.{space, has, BehindLast}
@@ -31,7 +31,7 @@ use Rattle.calendar.specs.declared.refusal.Refusal.the-variants.{Length, Form}
 use Rattle.calendar.specs.declared.refusal.Refusal.{Refusal}
 use Rattle.calendar.specs.declared.span.DayAnswer.the-variants.{Day, NoDay}
 use Rattle.calendar.specs.declared.span.DayAnswer.{DayAnswer}
-use Rattle.calendar.specs.declared.style.Style.the-variants.{Julian, Gregorian}
+use Rattle.calendar.specs.declared.style.Style.the-variants.{J, G}
 use Rattle.calendar.specs.declared.style.Style.{Style}
 use Rattle.calendar.specs.declared.year.NamedYear.{NamedYear}
 use Rattle.dating.specs.declared.line.Ending.the-variants.{At, NoEnding}
@@ -39,20 +39,20 @@ use Rattle.dating.specs.declared.line.Ending.{Ending}
 
 -- ---- style letters
 its-letter : (s : Style) → (isStyleLetter (styleLetter s) ≡ true) × (styleOfLetter (styleLetter s) ≡ s)
-its-letter Julian = (refl, refl)
-its-letter Gregorian = (refl, refl)
+its-letter J = (refl, refl)
+its-letter G = (refl, refl)
 
 letter-of : (x : ℕ) → isStyleLetter x ≡ true → styleLetter (styleOfLetter x) ≡ x
 letter-of x h =
-    elim (either (eqb x (styleLetter Gregorian))) [
-      | inl g ↦ rw g (sym (eqb-true x (styleLetter Gregorian) g))
-      | inr g ↦ rw g (sym (eqb-true x (styleLetter Julian) (rw g at h)))
+    elim (either (eqb x (styleLetter G))) [
+      | inl g ↦ rw g (sym (eqb-true x (styleLetter G) g))
+      | inr g ↦ rw g (sym (eqb-true x (styleLetter J) (rw g at h)))
     ]
 
 no-space : (s : Style) → has space (styleLetter s ∷ []) ≡ false
 unfolding has
-no-space Julian = refl
-no-space Gregorian = refl
+no-space J = refl
+no-space G = refl
 
 -- ---- endings
 -- the last n bytes of s
@@ -257,7 +257,7 @@ module _ (s : List ℕ) (k : ℕ) (t : NamedYear) (ends : TellsEnding s (At k t)
 pub day-read : (s : List ℕ) (y : Style) (n k : ℕ) → ReadFrom s y n k → IsDayOfLine s (Day n)
 day-read s y n k r = fit (r .fits) (produced (r .line) (r .good) (r .spelled) (sym (r .day)))
 
-pub read-in-span : (s : List ℕ) (y : Style) (n k : ℕ) → ReadFrom s y n k → inSpan y n ≡ true
+pub read-in-span : (s : List ℕ) (y : Style) (n k : ℕ) → ReadFrom s y n k → inSpan (datesBy y) n ≡ true
 unfolding lineDay
 read-in-span s y n k r = rw (r .style) at (phrase-in-span (r .line .named) (r .line .phrase) n (r .day))
 

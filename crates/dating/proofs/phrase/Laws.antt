@@ -13,6 +13,7 @@ use Rattle.words.proofs.wrapper.Laws.{spaced, one-wrapper}
 use Rattle.dating.proofs.anchor.Laws.{lacks-space, one-anchor}
 use Rattle.calendar.specs.Refusal.{_unless_, checked}
 use Rattle.calendar.specs.Span.{inSpan, within}
+use Rattle.calendar.specs.Style.{datesBy}
 use Rattle.words.specs.Text.{space, has}
 use Rattle.words.specs.Told.{Told, produced, unproduced}
 use Rattle.words.specs.Wrapper.{wrapperWords, GoodWrapper, leadings, lead}
@@ -24,20 +25,20 @@ use Rattle.dating.specs.Steps.{anchors, anchorDay, phrases}
 use Rattle.calendar.specs.declared.refusal.Refusal.the-variants.{Form, Year, Date, Span}
 use Rattle.calendar.specs.declared.span.DayAnswer.the-variants.{Day, NoDay}
 use Rattle.calendar.specs.declared.span.DayAnswer.{DayAnswer}
-use Rattle.calendar.specs.declared.style.Style.{Style}
+use Rattle.calendar.specs.declared.style.Calendar.{Calendar}
 use Rattle.calendar.specs.declared.year.NamedYear.{NamedYear}
 use Rattle.words.specs.declared.wrapper.Lead.the-variants.{Wrapped, Plain}
 use Rattle.words.specs.declared.wrapper.Lead.{Lead}
 use Rattle.words.specs.declared.wrapper.Wrapper.{Wrapper}
 
 -- A wrapper acts on the day of the phrase behind it.
-pub wrapper-acts : (t : NamedYear) (w : Wrapper) (p : Phrase) → phraseDay t (wrapped w p) ≡ acted (t .style) w (phraseDay t p)
+pub wrapper-acts : (t : NamedYear) (w : Wrapper) (p : Phrase) → phraseDay t (wrapped w p) ≡ acted (datesBy (t .style)) w (phraseDay t p)
 unfolding phraseDay comesTo staysIn anchorOf within
-wrapper-acts t w p = go (yearServed t p) (dateThere t p) (staysIn (t .style) p (startDay t p)) (comesTo p (startDay t p))
+wrapper-acts t w p = go (yearServed t p) (dateThere t p) (staysIn (datesBy (t .style)) p (startDay t p)) (comesTo p (startDay t p))
   where
     go : (year date stays : Bool) (n : ℕ)
-        → checked NoDay (Day (moved w n)) (Year unless year ∷ Date unless date ∷ Span unless (stays && inSpan (t .style) (moved w n)) ∷ [])
-        ≡ acted (t .style) w (checked NoDay (Day n) (Year unless year ∷ Date unless date ∷ Span unless stays ∷ []))
+        → checked NoDay (Day (moved w n)) (Year unless year ∷ Date unless date ∷ Span unless (stays && inSpan (datesBy (t .style)) (moved w n)) ∷ [])
+        ≡ acted (datesBy (t .style)) w (checked NoDay (Day n) (Year unless year ∷ Date unless date ∷ Span unless stays ∷ []))
     go false date stays n = refl
     go true false stays n = refl
     go true true false n = refl
@@ -61,18 +62,18 @@ one-phrase (wrapped w p) (wrapped v q) g h e =
     ap₂ wrapped (same .0) (one-phrase p q (g .1) (h .1) (same .1))
 
 -- ---- every day that a phrase tells lies in the span
-pub stays-last : (s : Style) (p : Phrase) (n : ℕ) → staysIn s p n ≡ true → inSpan s (comesTo p n) ≡ true
+pub stays-last : (c : Calendar) (p : Phrase) (n : ℕ) → staysIn c p n ≡ true → inSpan c (comesTo p n) ≡ true
 unfolding staysIn comesTo
-stays-last s (plain a) n h = h
-stays-last s (wrapped w p) n h = and-eq-true-iff (staysIn s p n) (inSpan s (moved w (comesTo p n))) .0 h .1
+stays-last c (plain a) n h = h
+stays-last c (wrapped w p) n h = and-eq-true-iff (staysIn c p n) (inSpan c (moved w (comesTo p n))) .0 h .1
 
-pub phrase-in-span : (t : NamedYear) (p : Phrase) (n : ℕ) → phraseDay t p ≡ Day n → inSpan (t .style) n ≡ true
+pub phrase-in-span : (t : NamedYear) (p : Phrase) (n : ℕ) → phraseDay t p ≡ Day n → inSpan (datesBy (t .style)) n ≡ true
 unfolding phraseDay
 phrase-in-span t p n e =
     let k = passed (phraseTests t p) (comesTo p (startDay t p)) n e in
-    rw (k .1) at (stays-last (t .style) p (startDay t p) (k .0 .1 .1 .0))
+    rw (k .1) at (stays-last (datesBy (t .style)) p (startDay t p) (k .0 .1 .1 .0))
 
-pub told-in-span : (t : NamedYear) (s : List ℕ) (n : ℕ) → Told phrases (phraseDay t) (NoDay Form) s (Day n) → inSpan (t .style) n ≡ true
+pub told-in-span : (t : NamedYear) (s : List ℕ) (n : ℕ) → Told phrases (phraseDay t) (NoDay Form) s (Day n) → inSpan (datesBy (t .style)) n ≡ true
 told-in-span t s n (produced p g e m) = phrase-in-span t p n (sym m)
 told-in-span t s n (unproduced none m) = no-day Form n (sym m)
 
@@ -80,7 +81,7 @@ told-in-span t s n (unproduced none m) = no-day Form n (sym m)
 module _ (s : List ℕ) (t : NamedYear) where
   pub plain-told : (l : Lead) → Told leadings lead Plain s l → l ≡ Plain → (r : DayAnswer) → Told anchors (anchorDay t) (NoDay Form) s r
       → Told phrases (phraseDay t) (NoDay Form) s r
-  unfolding spellPhrase GoodPhrase phraseDay comesTo staysIn anchorOf
+  unfolding spellPhrase GoodPhrase phraseDay comesTo staysIn anchorOf anchorDay
   plain-told l (produced x g e m) z r told = let f : Wrapped (x .wrapper) (length (wrapperWords (x .wrapper))) ≡ Plain = sym m ∙ z in no-false cc
   plain-told l (unproduced none m) z r (produced a g e f) = produced (plain a) g e f
   plain-told l (unproduced none m) z r (unproduced n f) = unproduced (λ p g e. neither p g e) f
@@ -108,10 +109,10 @@ module _ (s : List ℕ) (w : Wrapper) (n : ℕ) (begins : Told leadings lead Pla
       (omega arith, omega arith)
 
   pub wrapped-told : (t : NamedYear) (r : DayAnswer) → Told phrases (phraseDay t) (NoDay Form) (drop n s) r
-      → Told phrases (phraseDay t) (NoDay Form) s (acted (t .style) w r)
+      → Told phrases (phraseDay t) (NoDay Form) s (acted (datesBy (t .style)) w r)
   unfolding spellPhrase GoodPhrase
   wrapped-told t r (produced p g e m) =
-      produced (wrapped w p) (leads s w n begins .1, g) (rw e (leads s w n begins .2)) (ap (acted (t .style) w) m ∙ sym (wrapper-acts t w p))
+      produced (wrapped w p) (leads s w n begins .1, g) (rw e (leads s w n begins .2)) (ap (acted (datesBy (t .style)) w) m ∙ sym (wrapper-acts t w p))
   wrapped-told t r (unproduced none m) = unproduced (λ p g e. neither p g e) (rw m)
     where
       neither : (p : Phrase) → GoodPhrase p → spellPhrase p ≡ s → ⊥

@@ -8,14 +8,14 @@ use lib.ListN.{length, set, length-append}
 use lib.Seq.{sets, length-sets, set-comm, set-set}
 use borrow.Author.Tests.{le-leb, lt-leb}
 use Rattle.places.proofs.Bytes.{sets-both, sets-start}
-use Rattle.calendar.proofs.date.Laws.{date-small, day-date, one-answer-in-style}
+use Rattle.calendar.proofs.date.Laws.{date-small, day-date, one-answer-in-calendar}
 use Rattle.calendar.proofs.range.Laws.{in-range}
 use Rattle.calendar.proofs.refusal.Laws.{refused-by, both-checked}
 use Rattle.words.proofs.numeral.Laws.{one-digit, more-digits, more-length, two-digits, four-digits}
 use Rattle.dating.proofs.line.Laws.{line-length}
-use Rattle.calendar.specs.Date.{dayInYear}
+use Rattle.calendar.specs.Date.{dayInCalendar, dayInYear}
 use Rattle.calendar.specs.Span.{inSpan, within}
-use Rattle.calendar.specs.Style.{styleLetter}
+use Rattle.calendar.specs.Style.{styleLetter, datesBy}
 use Rattle.calendar.specs.Year.{named}
 use Rattle.words.specs.Numeral.{digit, numeral, field}
 use Rattle.words.specs.Text.{space, point, over}
@@ -114,7 +114,7 @@ field-length n c = length-append (numeral n) (c ∷ [])
 -- a date of the calendar has at most 12 bytes
 pub twelve-bytes : (s : Style) (n y m d : ℕ) → dayInYear (named s y) m d ≡ Day n → length (dateText (named s y) m d) ≤ 12
 twelve-bytes s n y m d e =
-    let small = date-small s n y m d e in
+    let small = date-small (datesBy s) n y m d e in
     let all = date-length (named s y) m d in
     let a = two-digits d (omega (arith, small .0)) in
     let b = two-digits m (omega (arith, small .1)) in
@@ -137,13 +137,13 @@ module _ (s : Style) (n : ℕ) (before : List ℕ) where
   too-short h = rw (lt-leb 12 (length before) h) (refl, refl)
 
   module _ (room : 12 ≤ length before) where
-    pub outside : (x : Refusal) → within s n ≡ NoDay x → WritesInStyle before before (NoBytes x) s n
+    pub outside : (x : Refusal) → within (datesBy s) n ≡ NoDay x → WritesInStyle before before (NoBytes x) s n
     unfolding within
     outside x e =
-        let out = refused-by (inSpan s n) Span x n e in
+        let out = refused-by (inSpan (datesBy s) n) Span x n e in
         rw (le-leb 12 (length before) room, out .0) (ap NoBytes (out .1), refl)
 
-    pub written : (after : List ℕ) (r : ℕ) → inSpan s n ≡ true → PutsDate s n 0 before after r → WritesInStyle before after (Bytes r) s n
+    pub written : (after : List ℕ) (r : ℕ) → inSpan (datesBy s) n ≡ true → PutsDate s n 0 before after r → WritesInStyle before after (Bytes r) s n
     written after r i h =
         let w = h .0 in
         let few = text-length s n w (h .1 .0) in
@@ -155,7 +155,8 @@ module _ (s : Style) (n : ℕ) (before : List ℕ) where
 -- ---- one text for each day, which reads back as the day
 pub one-text : (s : Style) (n : ℕ) (v w : List ℕ) → IsDateText s n v → IsDateText s n w → v ≡ w
 one-text s n v w p q =
-    let same = one-answer-in-style s n (on p) (on q) (day-date s n _ _ _ (p .is-date)) (day-date s n _ _ _ (q .is-date)) in
+    let c = datesBy s in
+    let same = one-answer-in-calendar c n (on p) (on q) (day-date c n _ _ _ (p .is-date)) (day-date c n _ _ _ (q .is-date)) in
     p .text ∙ ap text same ∙ sym (q .text)
   where
     on : {w : List ℕ} → IsDateText s n w → DateAnswer
@@ -170,9 +171,9 @@ date-spelled : (t : NamedYear) (m d : ℕ) → numeral d ++ point ∷ numeral m 
 date-spelled t m d = simp (append-assoc {A = ℕ})
 
 date-line : (s : Style) (n : ℕ) (w : List ℕ) → IsDateText s n w → (l : Line) × (GoodLine l × ((spellLine l ≡ w) × (lineDay l ≡ Day n)))
-unfolding spellLine spellPhrase spellAnchor GoodPhrase GoodAnchor lineDay phraseDay comesTo staysIn anchorOf dayInYear
+unfolding spellLine spellPhrase spellAnchor GoodPhrase GoodAnchor lineDay phraseDay comesTo staysIn anchorOf dayInCalendar
 date-line s n w t =
-    let small = date-small s n (t .year) (t .month) (t .day) (t .is-date) in (
+    let small = date-small (datesBy s) n (t .year) (t .month) (t .day) (t .is-date) in (
       record { phrase = plain (date (t .day) (t .month)); named = named s (t .year) },
       (record { phrase = (small .0, small .1); year = small .2 }, (date-spelled (named s (t .year)) (t .month) (t .day) ∙ sym (t .text), t .is-date)),
     )

@@ -2,38 +2,38 @@ use mathlib.Core.Bool.{true}
 use mathlib.Core.Path.{_≡_}
 use borrow.Author.Needs.{needs}
 use Rattle.calendar.proofs.Tested.{failed, held}
-use Rattle.calendar.specs.Date.{isDate, dayInYear}
+use Rattle.calendar.specs.Date.{isDate, dayInCalendar}
 use Rattle.calendar.specs.Span.{within}
 use Rattle.calendar.specs.Year.{served}
 use Rattle.calendar.proofs.date.day_by.Statement.{statement}
 use Rattle.calendar.proofs.date.day_by.Tie as tie
 
 returns : tie.Need-returns
-unfolding dayInYear
-returns c = rw (← c .before .before .style-by .ensures, failed (c .before .is-served .ensures) (c .if1 .taken))
+unfolding dayInCalendar
+returns c = rw (← c .before .before .calendar-by .ensures, failed (c .before .is-served .ensures) (c .if1 .taken))
 
-year-is : (c : tie.Else1) → served (c .before .before .style-by .result) (c .before .before .before .args .year) ≡ true
+year-is : (c : tie.Else1) → served (c .before .before .calendar-by .result) (c .before .before .before .args .year) ≡ true
 year-is c = held (c .before .is-served .ensures) (c .if1 .left)
 
 returns-2 : tie.Need-returns-2
-unfolding dayInYear
+unfolding dayInCalendar
 returns-2 c =
-    rw (← c .before .before .before .before .style-by .ensures, year-is (c .before .before), failed (c .before .is-date .ensures) (c .if2 .taken))
+    rw (← c .before .before .before .before .calendar-by .ensures, year-is (c .before .before), failed (c .before .is-date .ensures) (c .if2 .taken))
 
 date-is : (c : tie.Else2)
     → let s = c .before .before .before .before in
     let a = s .before .args in
-    isDate (s .style-by .result) (a .year) (a .month) (a .day) ≡ true
+    isDate (s .calendar-by .result) (a .year) (a .month) (a .day) ≡ true
 date-is c = held (c .before .is-date .ensures) (c .if2 .left)
 
 day-number-requires : tie.Need-day-number-requires
 day-number-requires c κs = (year-is (c .before .before), date-is c)
 
 returns-3 : tie.Need-returns-3
-unfolding dayInYear within
+unfolding dayInCalendar within
 returns-3 c =
     rw (
-      ← c .before .before .before .before .before .before .style-by .ensures,
+      ← c .before .before .before .before .before .before .calendar-by .ensures,
       year-is (c .before .before .before .before),
       date-is (c .before .before),
       c .day-within .ensures,

@@ -5,7 +5,7 @@ use Rattle.calendar.proofs.date.day_of_date.Tie as tie
 returns : tie.Need-returns
 returns c =
     let known = c .before .before .before in
-    rw (c .day-by .ensures, c .before .is-gregorian .ensures, ← known .before .before .style-of .ensures, known .known .given .1)
+    rw (c .day-in-calendar .ensures, c .before .dates-by .ensures, ← known .before .before .style-of .ensures, known .known .given .1)
 
 returns-2 : tie.Need-returns-2
 returns-2 c = rw (← c .before .before .before .style-of .ensures, c .before .refusal .given .1)

@@ -23,8 +23,8 @@ returns-2 : tie.Need-returns-2
 returns-2 c =
     let m = range _ _ _ (month-is (c .before .before)) in
     let d = range _ _ _ (sym (c .before .is-between2 .ensures) ∙ c .if2 .taken) in
-    let named = c .before .before .before .before .args .named in
-    let long = month-has-days (leap (named .style) (named .year)) _ (m .0) (m .1) in
+    let a = c .before .before .before .before .args in
+    let long = month-has-days (leap (a .calendar) (a .year)) _ (m .0) (m .1) in
     sym (bounds-date _ _ _ _ (record { month-low = m .0; month-high = m .1; day-low = d .0; day-high = omega arith }))
 
 month-length-requires : tie.Need-month-length-requires

@@ -12,7 +12,7 @@ returns : tie.Need-returns
 unfolding within
 returns c = rw (failed (c .before .is-in-span .ensures) (c .if1 .taken))
 
-day-is : (c : tie.Else1) → inSpan (c .before .before .args .style) (c .before .before .args .day) ≡ true
+day-is : (c : tie.Else1) → inSpan (c .before .before .args .calendar) (c .before .before .args .day) ≡ true
 day-is c = held (c .before .is-in-span .ensures) (c .if1 .left)
 
 cast-t6 : tie.Need-cast-t6

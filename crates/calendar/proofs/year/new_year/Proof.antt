@@ -8,18 +8,18 @@ use Rattle.calendar.specs.Year.{firstNewYear}
 use Rattle.calendar.proofs.year.new_year.Statement.{statement}
 use Rattle.calendar.proofs.year.new_year.Tie as tie
 
-first-is : (c : tie.At-match-came) → c .match .first ≡ firstNewYear (c .before .before .args .named .style)
+first-is : (c : tie.At-match-came) → c .match .first ≡ firstNewYear (c .before .args .calendar)
 first-is c = ⊎-elim (λ w. rw (w .1 .given .1) (w .2)) (λ w. rw (w .1 .given .1) (w .2)) (c .match .came)
 
 hundreds-are : (c : tie.At-match2-came)
-    → let named = c .before .before .before .args .named in
-    c .match2 .hundreds ≡ hundreds (named .style) (named .year - 1)
+    → let a = c .before .before .args in
+    c .match2 .hundreds ≡ hundreds (a .calendar) (a .year - 1)
 hundreds-are c = ⊎-elim (λ w. rw (w .1 .given .1) (w .2)) (λ w. rw (w .1 .given .1) (w .2)) (c .match2 .came)
 
-sizes : (c : tie.At-match2-came) → (c .before .match .first ≤ 1721426) × (c .match2 .hundreds ≤ (c .before .before .before .args .named .year - 1) / 4)
+sizes : (c : tie.At-match2-came) → (c .before .match .first ≤ 1721426) × (c .match2 .hundreds ≤ (c .before .before .args .year - 1) / 4)
 sizes c =
-    let named = c .before .before .before .args .named in
-    rw (first-is (c .before), hundreds-are c) (choices-small (named .style) (named .year - 1))
+    let a = c .before .before .args in
+    rw (first-is (c .before), hundreds-are c) (choices-small (a .calendar) (a .year - 1))
 
 add-result : tie.Need-add-result
 add-result c = omega (arith, sizes (c .before))
@@ -35,9 +35,9 @@ sub-result c = omega (arith, sizes (c .before .before))
 
 returns : tie.Need-returns
 returns c =
-    let named = c .before .before .before .before .before .args .named in
-    rw (first-is (c .before .before .before), hundreds-are (c .before .before), new-year-at (named .style) (named .year) (omega arith))
-    (omega (arith, choices-small (named .style) (named .year - 1)))
+    let a = c .before .before .before .before .args in
+    rw (first-is (c .before .before .before), hundreds-are (c .before .before), new-year-at (a .calendar) (a .year) (omega arith))
+    (omega (arith, choices-small (a .calendar) (a .year - 1)))
 
 pub new-year-spec : {M : Type 1} → statement M
 new-year-spec =

@@ -6,7 +6,7 @@ use Rattle.calendar.proofs.span.Laws.{span-range}
 use Rattle.calendar.proofs.year.Laws.{estimate-J, estimate-G, estimated}
 use Rattle.calendar.specs.Span.{lastDay}
 use Rattle.calendar.specs.Year.{firstNewYear}
-use Rattle.calendar.specs.declared.style.Style.the-variants.{Julian, Gregorian}
+use Rattle.calendar.specs.declared.style.Calendar.the-variants.{Julian, Gregorian}
 use Rattle.calendar.proofs.year.year_estimate.Statement.{statement}
 use Rattle.calendar.proofs.year.year_estimate.Tie as tie
 

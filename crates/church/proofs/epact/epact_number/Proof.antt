@@ -13,7 +13,7 @@ mul-result : tie.Need-mul-result
 mul-result c = omega (arith, size (c .before .before))
 
 gregorian-epact-requires : tie.Need-gregorian-epact-requires
-gregorian-epact-requires c κs = omega (arith, size (c .before .before .before))
+gregorian-epact-requires c κs = omega (arith, size (c .before .before))
 
 returns : tie.Need-returns
 unfolding epact
@@ -21,7 +21,7 @@ returns c = rw (c .before .before .golden-number .ensures, c .enum-told .given .
 
 returns-2 : tie.Need-returns-2
 unfolding epact
-returns-2 c = rw (c .gregorian-epact .ensures, c .before .before .before .before .golden-number .ensures, c .before .before .enum-told2 .given .1)
+returns-2 c = rw (c .gregorian-epact .ensures, c .before .before .before .golden-number .ensures, c .before .enum-told2 .given .1)
 
 pub epact-number-spec : {M : Type 1} → statement M
 epact-number-spec =

@@ -29,7 +29,7 @@ hung-on-easter-requires c κs = omega (arith, listed (c .before))
 -- the rule that the feast is kept by, in the year as the code holds it
 kept : (c : tie.Else1)
     → let a = c .before .before .before .args in
-    ruleDay (named (c .before .before .style-by .result) (a .year)) (rule (a .feast)) ≡ feastInYear (named (styleBy (a .gregorian)) (a .year)) (a .feast)
+    ruleDay (named (c .before .before .style-by .result) (a .year)) (rule (a .feast)) ≡ feastInYear (named (styleBy (a .style)) (a .year)) (a .feast)
 kept c = rw (← c .before .before .style-by .ensures) (sym (in-table _ _ (in-list c)))
 
 returns-2 : tie.Need-returns-2

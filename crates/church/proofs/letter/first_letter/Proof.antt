@@ -7,8 +7,8 @@ use Rattle.church.proofs.letter.first_letter.Statement.{statement}
 use Rattle.church.proofs.letter.first_letter.Tie as tie
 
 letter : (c : tie.Start)
-    → let named = c .args .named in
-    SundayLetter (named .style) (named .year) first (closed first (leap (named .style) (named .year)) (c .args .equinox))
+    → let a = c .args in
+    SundayLetter (a .calendar) (a .year) first (closed first (leap (a .calendar) (a .year)) (a .equinox))
 letter c = rw (c .pre) (sundays _ _ first)
 
 returns : tie.Need-returns

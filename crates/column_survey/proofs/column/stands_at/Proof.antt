@@ -9,8 +9,8 @@ use Rattle.column_survey.proofs.column.stands_at.Statement.{statement}
 use Rattle.column_survey.proofs.column.stands_at.Tie as tie
 
 column : (c : tie.Start)
-    → agrees (c .args .style) (c .args .epact) (c .args .arabic) (c .args .day)
-    ≡ stands (c .args .style) (c .args .epact) (c .args .arabic) (c .args .day)
+    → agrees (c .args .calendar) (c .args .epact) (c .args .arabic) (c .args .day)
+    ≡ stands (c .args .calendar) (c .args .epact) (c .args .arabic) (c .args .day)
 column c = agreed _ _ _ _ (c .pre .0) (c .pre .1) (c .pre .2)
 
 returns : tie.Need-returns

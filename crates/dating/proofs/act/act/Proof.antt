@@ -70,4 +70,4 @@ act-spec =
     (tie.spec
     (λ c κs. search needs) (λ c κs. search needs) (λ c κs. search needs) (λ c. search needs)
     (λ c. omega (arith, span-small _ _ (c .before .before .before .before .pre .1))) (λ c κs. search needs)
-    (λ c. c .day-within .ensures ∙ ap (within (c .before .before .before .before .before .before .args .style)) (its-answer (c .before))))
+    (λ c. c .day-within .ensures ∙ ap (within (c .before .before .before .before .before .before .args .calendar)) (its-answer (c .before))))

@@ -1,6 +1,7 @@
 use mathlib.Core.Path.{sym}
 use native.Mathlib.Omega.{arith}
 use borrow.Author.Needs.{needs}
+use Rattle.calendar.proofs.style.Laws.{by-its-number}
 use Rattle.dating.proofs.line.Laws.{TellsEnding, no-bytes, too-many, length-fits, no-ending, ending-of, size, line-told}
 use Rattle.dating.specs.declared.line.Ending.the-variants.{At}
 use Rattle.dating.proofs.line.day_of_line.Statement.{statement}
@@ -20,7 +21,7 @@ returns-4 : tie.Need-returns-4
 returns-4 c =
     let few = c .before .before .before .before .before .before .before in
     let fits = length-fits (few .before .before .before .args .line .now) (few .before .if1 .left) (omega (arith, few .if2 .left)) in
-    line-told _ _ _ (ends (c .before .before .before)) fits _ (rw (c .before .is-gregorian .ensures) at (c .phrase-in-year .ensures))
+    line-told _ _ _ (ends (c .before .before .before)) fits _ (rw (c .before .style-number .ensures, by-its-number) at (c .phrase-in-year .ensures))
 
 pub day-of-line-spec : {M : Type 1} → statement M
 day-of-line-spec =

@@ -17,6 +17,7 @@ use Rattle.dating.specs.Steps.{phrases}
 use Rattle.calendar.specs.declared.refusal.Refusal.the-variants.{Form}
 use Rattle.calendar.specs.declared.span.DayAnswer.the-variants.{NoDay}
 use Rattle.words.specs.declared.wrapper.Lead.the-variants.{Wrapped, Plain}
+use Rattle.calendar.proofs.style.dates_by.Reads as dates-by
 use Rattle.calendar.proofs.style.style_by.Reads as style-by
 use Rattle.dating.proofs.anchor.anchor_in_year.Reads as anchor-in-year
 use Rattle.dating.proofs.phrase.+phrase_in_year.Lts-phrase_in_year as lts
@@ -40,13 +41,13 @@ below t = and 1 kinds.ps (falls 1 kinds.ps _<_ μ-phrase-in-year t) reads.Pre
 -- what is asked and learnt of each callee, and of the reader itself below the measure t
 abbrev callees : ℕ → lts.Claims
 callees t =
-    (lead-of.Asked, lead-of.Learnt, style-by.Asked, style-by.Learnt, anchor-in-year.Asked, anchor-in-year.Learnt, below t, reads.Post, act.Asked, act.Learnt)
+    (lead-of.Asked, lead-of.Learnt, style-by.Asked, style-by.Learnt, anchor-in-year.Asked, anchor-in-year.Learnt, below t, reads.Post, dates-by.Asked, dates-by.Learnt, act.Asked, act.Learnt)
 
 module _ (t : ℕ) where
   -- what a phrase with no wrapper tells
   plain : (c : lts.After-anchor-in-year (callees t) (at t) reads.Post)
       → let a = c .before .before .before .before .before .before .args in
-      Told phrases (phraseDay (named (styleBy (a .gregorian)) (a .year))) (NoDay Form) (a .phrase .now) (c .anchor-in-year .result)
+      Told phrases (phraseDay (named (styleBy (a .style)) (a .year))) (NoDay Form) (a .phrase .now) (c .anchor-in-year .result)
   plain c =
       let style = c .before .before .before in
       plain-told _ _ _ (style .before .lead-of .ensures .told) (rw (c .before .if1 .taken)) _
@@ -61,16 +62,17 @@ module _ (t : ℕ) where
   -- what the rest behind it tells
   tells : (c : lts.After-phrase-in-year (callees t) (at t) reads.Post)
       → let found = c .before .before .before .before .before in let a = found .before .before .args in
-      Told phrases (phraseDay (named (styleBy (a .gregorian)) (a .year))) (NoDay Form) (drop (found .lead-of .result .length) (a .phrase .now))
+      Told phrases (phraseDay (named (styleBy (a .style)) (a .year))) (NoDay Form) (drop (found .lead-of .result .length) (a .phrase .now))
       (c .phrase-in-year .result)
   tells c = rw (rest _ _) at (c .phrase-in-year .ensures)
 
   returns-4 : lts.Need-returns-4 (callees t) (at t) reads.Post
   returns-4 c =
-      let k = c .before .before .before .before in
+      let dates = c .before in
+      let k = dates .before .before .before .before in
       let wrapper = k .before .before in
-      let day = c .before .before .behind .given .1 in
-      rw (c .act .ensures, wrapper .before .before .style-by .ensures) (wrapped-told _ _ _ (begins wrapper) _ _ (rw day at (tells k)))
+      let day = dates .before .before .behind .given .1 in
+      rw (c .act .ensures, dates .dates-by .ensures, wrapper .before .before .style-by .ensures) (wrapped-told _ _ _ (begins wrapper) _ _ (rw day at (tells k)))
 
   returns-3 : lts.Need-returns-3 (callees t) (at t) reads.Post
   returns-3 c =
@@ -91,10 +93,12 @@ module _ (t : ℕ) where
 
   act-requires : lts.Need-act-requires (callees t) (at t) reads.Post
   act-requires c κs =
-      let k = c .before .before .before in
+      let k = c .before .before .before .before in
       let wrapper = k .before .before in
-      let style = wrapper .before .before in
-      (leads _ _ _ (begins wrapper) .1, rw (style .style-by .ensures) (told-in-span _ _ _ (rw (c .before .behind .given .1) at (tells k))))
+      let style = wrapper .before .before in (
+        leads _ _ _ (begins wrapper) .1,
+        rw (c .dates-by .ensures, style .style-by .ensures) (told-in-span _ _ _ (rw (c .before .before .behind .given .1) at (tells k))),
+      )
 
 pub +phrase-in-year-spec : {M : Type 1} → statement M
 +phrase-in-year-spec =
@@ -104,4 +108,4 @@ pub +phrase-in-year-spec : {M : Type 1} → statement M
     (λ c. plain t (c .before .before)) (λ c. rw (c .before .answer .given .1) at (plain t (c .before .before .before)))
     (λ c. shorter _ _ _ (begins t c) .1) (λ c. shorter _ _ _ (begins t c) .1) (λ c. search needs)
     (phrase-in-year-requires t) (λ c. search needs) (λ c. search needs)
-    (returns-3 t) (act-requires t) (returns-4 t)
+    (returns-3 t) (λ c κs. search needs) (act-requires t) (returns-4 t)

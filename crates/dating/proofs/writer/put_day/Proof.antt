@@ -4,6 +4,7 @@ use borrow.Author.Needs.{needs}
 use Rattle.calendar.proofs.date.Laws.{date-day}
 use Rattle.dating.proofs.writer.Laws.{twelve-bytes, day-put}
 use Rattle.calendar.specs.Date.{dayInYear}
+use Rattle.calendar.specs.Style.{datesBy}
 use Rattle.calendar.specs.Year.{named}
 use Rattle.calendar.specs.declared.date.DateAnswer.the-variants.{NoDate}
 use Rattle.calendar.specs.declared.span.DayAnswer.the-variants.{Day}
@@ -22,12 +23,12 @@ returns-2 : tie.Need-returns-2
 returns-2 c =
     let start = c .before .before .before .before in
     let none = rw (c .enum-told .given .1) at (c .before .before .date-in-style .ensures) in
-    absurd (date-day (start .args .style) (start .args .day) (NoDate _) (start .pre .1) none)
+    absurd (date-day (datesBy (start .args .style)) (start .args .day) (NoDate _) (start .pre .1) none)
 
 pub put-day-spec : {M : Type 1} → statement M
 put-day-spec =
     tie.close
     (tie.spec (λ c κs. search needs) (λ c. search needs)
-    (λ c κs. omega (arith, twelve-bytes _ _ _ _ _ (its-date (c .before)), c .before .before .before .before .before .before .pre .0))
+    (λ c κs. omega (arith, twelve-bytes (c .before .before .before .before .before .before .args .style) _ _ _ _ (its-date (c .before)), c .before .before .before .before .before .before .pre .0))
     (λ c. search needs) (λ c. search needs)
     (λ c. day-put _ _ _ _ _ (its-date (c .before .before .before .before)) (c .before .before .put-date .ensures)) returns-2)
