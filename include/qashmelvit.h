@@ -1,15 +1,20 @@
 /*
  * Qashmelvit tells the day that a dating line of an old letter names, such as "tue after quasimodo 1587 G", in the Julian or in the
- * Gregorian style, answers a page of such lines in one call, and finds the dating lines that are marked in a transcript. Each call has one
- * answer for every input, keeps nothing between calls, so that threads may call at once, and changes no byte that it is lent, but for the
- * places that qv_page and qv_marks fill. The archive libqashmelvit.a is for x86-64, and is linked by
+ * Gregorian style, or in the style that keeps the old Easter with new dates, answers a page of such lines in one call, and finds the dating
+ * lines that are marked in a transcript. Each call has one answer for every input, keeps nothing between calls, so that threads may call at
+ * once, and changes no byte that it is lent, but for the places that qv_page and qv_marks fill. The archive libqashmelvit.a is for x86-64,
+ * and is linked by
  *
  *     cc -o tag tag.c $(pkg-config --cflags --libs qashmelvit)
  *
  * A day is a Julian Day Number. A style is a number, and serves the days of its span:
  *
- *     1  J, Julian      1 January 1 (1721424) to 31 December 9999 (5373557)
- *     2  G, Gregorian   15 October 1582 (2299161) to 31 December 9999 (5373484)
+ *     1  J, Julian       1 January 1 (1721424) to 31 December 9999 (5373557)
+ *     2  G, Gregorian    15 October 1582 (2299161) to 31 December 9999 (5373484)
+ *     3  O, old Easter   15 October 1582 (2299161) to 31 December 9999 (5373484)
+ *
+ * O is for those who date by the new calendar and keep the old Easter: its dates, leap years and served years are those of G, and Easter,
+ * with every feast that hangs on it, is the same day as in J.
  *
  * A call that answers a day answers the day or the number of a refusal, the lowest that holds. No day is below QV_FIRST_DAY, so that a
  * number below that is a refusal:
@@ -42,7 +47,7 @@
  *     side      after | before | on or after | on or before
  *     date      day.month                 1 to 31 and 1 to 12, without leading zeros
  *     year      1 to 4 digits, the first not 0
- *     style     J | G
+ *     style     J | G | O
  *
  * The feast or date is taken in the named year; then each wrapper acts, the innermost first. Eve is one day earlier, morrow one later,
  * octave seven later; after is the first such weekday strictly later, before strictly earlier; with "on or" the starting day counts too,
@@ -83,12 +88,13 @@ extern "C" {
 /* The styles. */
 #define QV_JULIAN 1
 #define QV_GREGORIAN 2
+#define QV_OLD_EASTER 3
 
 /* The refusals, in the order of checking; of a transcript its length is checked first, then QV_ENCODING, then its places. */
 #define QV_NAME 1     /* no such style or feast number */
 #define QV_LENGTH 2   /* a dating line of 0 or of more than 120 bytes, a page or transcript of more than 65,536 bytes, or too few places */
 #define QV_FORM 3     /* no dating line by the grammar */
-#define QV_YEAR 4     /* J outside 1 to 9999, G outside 1582 to 9999, or G 1582 for a feast hung on Easter */
+#define QV_YEAR 4     /* J outside 1 to 9999, G and O outside 1582 to 9999, or their 1582 for a feast hung on Easter */
 #define QV_DATE 5     /* no such month, or no such day in that month of that year */
 #define QV_SPAN 6     /* a day outside the style's span */
 #define QV_ENCODING 9 /* a transcript that is not UTF-8 */
@@ -197,6 +203,8 @@ uint32_t qv_page_refusal(const uint8_t *page, size_t length, size_t size);
  *     qv_feast(QV_JULIAN, 13, 1225) == 2168578
  *     qv_feast(QV_GREGORIAN, 13, 1582) == QV_YEAR
  *     qv_feast(QV_GREGORIAN, 25, 1582) == QV_SPAN
+ *     qv_feast(QV_OLD_EASTER, 13, 2024) == qv_day(QV_OLD_EASTER, 2024, 5, 5)
+ *     qv_feast(QV_OLD_EASTER, 13, 2024) == qv_feast(QV_JULIAN, 13, 2024)
  */
 uint32_t qv_feast(uint64_t style, uint64_t feast, uint64_t year);
 
@@ -207,6 +215,7 @@ uint32_t qv_feast(uint64_t style, uint64_t feast, uint64_t year);
  *     qv_day(QV_GREGORIAN, 1582, 10, 15) == 2299161
  *     qv_day(QV_GREGORIAN, 1582, 10, 14) == QV_SPAN
  *     qv_day(QV_GREGORIAN, 1582, 2, 29) == QV_DATE
+ *     qv_day(QV_OLD_EASTER, 1582, 10, 15) == 2299161
  */
 uint32_t qv_day(uint64_t style, uint64_t year, uint64_t month, uint64_t day);
 

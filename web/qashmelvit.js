@@ -4,6 +4,8 @@
 export const JULIAN = 1;
 /** The style G. */
 export const GREGORIAN = 2;
+/** The style O. */
+export const OLD_EASTER = 3;
 
 /** The refusal of a style or feast number that is none. */
 export const NAME = 1;

@@ -125,12 +125,16 @@ static void expect_refused(const char *line, size_t length, uint32_t refusal)
     expect_line(line, length, refusal, 0, 0);
 }
 
+static char style_letter(uint64_t style)
+{
+    return style == QV_JULIAN ? 'J' : style == QV_GREGORIAN ? 'G' : 'O';
+}
+
 /* Reads the line of these parts, and expects the answer, with the feast word or date as its part, or the refusal of a long line. */
 static void expect_phrase(const char *wrappers, const char *anchor, uint64_t year, uint64_t style, uint32_t answer)
 {
     char line[2 * LONGEST_TRIED];
-    char letter = style == QV_JULIAN ? 'J' : 'G';
-    int written = snprintf(line, sizeof line, "%s%s %" PRIu64 " %c", wrappers, anchor, year, letter);
+    int written = snprintf(line, sizeof line, "%s%s %" PRIu64 " %c", wrappers, anchor, year, style_letter(style));
     size_t length = (size_t)written;
     if (length > LONGEST)
         expect_refused(line, length, QV_LENGTH);
@@ -144,7 +148,7 @@ static void expect_phrase(const char *wrappers, const char *anchor, uint64_t yea
 
 static int is_style(uint64_t style)
 {
-    return style == QV_JULIAN || style == QV_GREGORIAN;
+    return style == QV_JULIAN || style == QV_GREGORIAN || style == QV_OLD_EASTER;
 }
 
 static uint64_t first_year(uint64_t style)
@@ -192,18 +196,19 @@ static uint32_t date_refusal(uint64_t style, uint64_t year, uint64_t month, uint
         return QV_YEAR;
     if (month < 1 || month > 12 || day < 1 || day > month_length(style, year, month))
         return QV_DATE;
-    if (style == QV_GREGORIAN && year == 1582 && (month < 10 || (month == 10 && day < 15)))
+    if (style != QV_JULIAN && year == 1582 && (month < 10 || (month == 10 && day < 15)))
         return QV_SPAN;
     return 0;
 }
 
-/* Easter as a day of March run on past 31: for J by the rule of Gauss, for G by the anonymous rule that Nature printed in 1876. */
+/* Easter as a day of March of the style's dates, run on past 31: for J and O by the rule of Gauss, in O carried over to new dates, and for G by the
+   anonymous rule that Nature printed in 1876. */
 static uint64_t easter_in_march(uint64_t style, uint64_t year)
 {
     uint64_t a = year % 19, b = year / 100, c = year % 100, d, h, l, m;
-    if (style == QV_JULIAN) {
+    if (style != QV_GREGORIAN) {
         d = (19 * a + 15) % 30;
-        return 22 + d + (2 * (year % 4) + 4 * (year % 7) + 6 * d + 6) % 7;
+        return 22 + d + (2 * (year % 4) + 4 * (year % 7) + 6 * d + 6) % 7 + (style == QV_JULIAN ? 0 : b - b / 4 - 2);
     }
     h = (19 * a + b - b / 4 - (b - (b + 8) / 25 + 1) / 3 + 15) % 30;
     l = (32 + 2 * (b % 4) + 2 * (c / 4) - h - c % 4) % 7;
@@ -242,7 +247,7 @@ static uint32_t wanted_feast(uint64_t style, uint64_t number, uint64_t year)
     if (!is_style(style) || number < 1 || number > FEASTS)
         return QV_NAME;
     feast = &feasts[number - 1];
-    if (!is_served(style, year) || (feast->month == 0 && style == QV_GREGORIAN && year == 1582))
+    if (!is_served(style, year) || (feast->month == 0 && style != QV_JULIAN && year == 1582))
         return QV_YEAR;
     if (feast->month == 0)
         return qv_day(style, year, 3, 1) - 1 + (uint32_t)easter_in_march(style, year) + (uint32_t)feast->from_easter;
@@ -255,10 +260,10 @@ static uint32_t wanted_feast(uint64_t style, uint64_t number, uint64_t year)
 
 /* Numbers at which a test may turn, and numbers that a narrower type would cut to a good one. */
 static const uint64_t numbers[] = {
-    0, 1, 2, 3, 4, 10, 12, 13, 14, 15, 23, 24, 28, 29, 30, 31, 32, 47, 48, 49, 256 + 1, 256 + 2, 1581, 1582, 1583, 1900, 2000,
+    0, 1, 2, 3, 4, 10, 12, 13, 14, 15, 23, 24, 28, 29, 30, 31, 32, 47, 48, 49, 256 + 1, 256 + 2, 256 + 3, 1581, 1582, 1583, 1900, 2000,
     9999, 10000, 65536 + 1, QV_FIRST_DAY - 1, QV_FIRST_DAY, GREGORIAN_FIRST - 1, GREGORIAN_FIRST, GREGORIAN_LAST,
     GREGORIAN_LAST + 1, JULIAN_LAST, JULIAN_LAST + 1, UINT64_C(1) << 31, UINT32_MAX, UINT64_C(1) << 32, (UINT64_C(1) << 32) + 1,
-    (UINT64_C(1) << 32) + 2, (UINT64_C(1) << 32) + 1582, (UINT64_C(1) << 32) + GREGORIAN_FIRST, UINT64_C(1) << 63,
+    (UINT64_C(1) << 32) + 2, (UINT64_C(1) << 32) + 3, (UINT64_C(1) << 32) + 1582, (UINT64_C(1) << 32) + GREGORIAN_FIRST, UINT64_C(1) << 63,
     (UINT64_C(1) << 63) + 1, UINT64_MAX - 1, UINT64_MAX,
 };
 
@@ -410,7 +415,10 @@ static void check_known_distances(void)
         {{1, 1900, 2, 28, 1, 1900, 3, 1}, 0, 2},
         {{2, 1900, 2, 28, 2, 1900, 3, 1}, 0, 1},
         {{2, 1582, 10, 14, 2, 1581, 1, 1}, QV_SPAN, 0},
-        {{1, 1, 2, 30, 3, 1, 1, 1}, QV_DATE, 0},
+        {{3, 2024, 5, 5, 1, 2024, 4, 22}, 0, 0},
+        {{3, 1900, 2, 28, 3, 1900, 3, 1}, 0, 1},
+        {{3, 1582, 10, 14, 3, 1581, 1, 1}, QV_SPAN, 0},
+        {{1, 1, 2, 30, 4, 1, 1, 1}, QV_DATE, 0},
         {{2, 1581, 1, 1, 0, 0, 0, 0}, QV_YEAR, 0},
         {{0, 0, 0, 0, 2, 1582, 1, 1}, QV_NAME, 0},
         {{1, 1, 1, 1, 2, 1582, 1, 1}, QV_SPAN, 0},
@@ -445,7 +453,7 @@ static void check_random_distances(void)
     int date;
     for (rounds = 0; rounds < 200000; rounds++) {
         for (date = 0; date < 8; date += 4) {
-            a[date] = random_below(40) == 0 ? 3 * random_below(2) : 1 + random_below(2);
+            a[date] = random_below(40) == 0 ? 4 * random_below(2) : 1 + random_below(3);
             a[date + 1] = random_below(4) == 0 ? random_below(10050) : 1575 + random_below(8425);
             a[date + 2] = random_below(40) == 0 ? 13 * random_below(2) : 1 + random_below(12);
             a[date + 3] = random_below(33);
@@ -476,6 +484,7 @@ static void check_known_feasts(void)
     } known[] = {
         {2, EASTER, 2025, 4, 20}, {2, EASTER, 1954, 4, 18}, {2, EASTER, 1810, 4, 22}, {2, EASTER, 1981, 4, 19},
         {2, EASTER, 1818, 3, 22}, {2, EASTER, 1943, 4, 25}, {1, EASTER, 1225, 3, 30}, {2, ADVENT, 1582, 11, 28},
+        {3, EASTER, 2024, 5, 5}, {3, EASTER, 2025, 4, 20}, {3, EASTER, 1583, 4, 10}, {3, EASTER, 1900, 4, 22}, {3, ADVENT, 1582, 11, 28},
     };
     size_t i;
     for (i = 0; i < COUNT(known); i++) {
@@ -540,6 +549,12 @@ static void check_known_lines(void)
         {"", "29.2", 1900, 1, 2415092},
         {"", "15.10", 1582, 2, GREGORIAN_FIRST},
         {"", "14.10", 1582, 2, QV_SPAN},
+        {"", "15.10", 1582, 3, GREGORIAN_FIRST},
+        {"", "14.10", 1582, 3, QV_SPAN},
+        {"", "easter", 1582, 3, QV_YEAR},
+        {"", "septuagesima", 1582, 3, QV_YEAR},
+        {"", "29.2", 1900, 3, QV_DATE},
+        {"octave of ", "25.12", 9999, 3, QV_SPAN},
         {"", "29.2", 1582, 2, QV_DATE},
         {"morrow of eve of ", "1.1", 1, 1, QV_SPAN},
         {"", "advent", 1582, 2, 2299205},
@@ -671,8 +686,8 @@ static void check_cut_lines(void)
 static uint32_t wanted_with_byte(size_t place, int byte)
 {
     uint64_t year = 1225, unit = place == 7 ? 1000 : place == 8 ? 100 : place == 9 ? 10 : 1;
-    if (place == 12 && (byte == 'J' || byte == 'G'))
-        return qv_feast(byte == 'J' ? QV_JULIAN : QV_GREGORIAN, EASTER, year);
+    if (place == 12 && (byte == 'J' || byte == 'G' || byte == 'O'))
+        return qv_feast(byte == 'J' ? QV_JULIAN : byte == 'G' ? QV_GREGORIAN : QV_OLD_EASTER, EASTER, year);
     if (place < 7 || place > 10)
         return byte == "easter 1225 J"[place] ? qv_feast(QV_JULIAN, EASTER, year) : QV_FORM;
     if (byte < (place == 7 ? '1' : '0') || byte > '9')
@@ -721,7 +736,7 @@ static void check_weekday_words(uint64_t style, uint64_t year)
     for (day = 1; day <= 14; day++)
         for (word = FIRST_OF_WEEKDAY; word < WRAPPERS; word++) {
             uint32_t from = qv_day(style, year, 11, day), weekday = weekday_of_wrapper(word), least = word < FIRST_ON_OR ? 1 : 0, off;
-            int length = sprintf(line, "%s%" PRIu64 ".11 %" PRIu64 " %c", wrappers[word], day, year, style == QV_JULIAN ? 'J' : 'G');
+            int length = sprintf(line, "%s%" PRIu64 ".11 %" PRIu64 " %c", wrappers[word], day, year, style_letter(style));
             struct reading r = reading(line, (size_t)length);
             off = leads_on(word) ? r.answer - from : from - r.answer;
             check_line(1, off >= least && off <= least + 6, "at most seven days off", line, (size_t)length);
@@ -748,7 +763,7 @@ static void check_random_chains(void)
     for (rounds = 0; rounds < 50000; rounds++) {
         int chosen[12], count = (int)random_below(12), i;
         uint32_t answer;
-        style = 1 + random_below(2);
+        style = 1 + random_below(3);
         random_date(style, &year, &month, &day);
         answer = date_refusal(style, year, month, day);
         if (answer == 0)
@@ -989,6 +1004,7 @@ static void check_calls(void)
 {
     check_style(QV_JULIAN);
     check_style(QV_GREGORIAN);
+    check_style(QV_OLD_EASTER);
     check_calls_on_numbers();
     check_calls_on_lines();
     check_longest_transcript();

@@ -1,18 +1,18 @@
 -- What holds beyond the contracts; of the public calls as a user makes them, by a style's number.
-use mathlib.Core.Bool.{Bool, true, false, cond}
+use mathlib.Core.Bool.{Bool, true, false, cond, true≢false}
 use mathlib.Core.List.{[], _∷_}
 use mathlib.Core.Logic.{_↔_, _⊎_, inl, inr}
 use mathlib.Core.Path.{_≡_, refl, sym, _∙_, ap}
 use Prim.Native.Nat.{ℕ, pred, _+_, _≤_, _<_}
 use native.Mathlib.Omega.{arith}
-use lib.Dec.{eqb}
 use lib.IntN.{ℤ, pos, natAbs}
-use borrow.Author.Tests.{le-leb, lt-leb, eqb-true, eqb-false}
+use borrow.Author.Tests.{le-leb, lt-leb}
 use Rattle.calendar.proofs.date.Laws as laws
 pub use Rattle.calendar.proofs.date.Laws.{day-range}
 use Rattle.calendar.proofs.distance.Laws.{both-days, distance-size, zero-same-day, same-day-zero}
+use Rattle.calendar.proofs.range.Laws.{range, in-range}
 use Rattle.calendar.proofs.span.Laws.{span-small}
-use Rattle.calendar.proofs.style.Laws.{by-number, both-in, given-by-number, given-of-any}
+use Rattle.calendar.proofs.style.Laws.{by-number, by-range, number-range, number-kept, both-in, given-by-number, given-of-any}
 use Rattle.calendar.proofs.weekday.Laws.{is-later, is-earlier}
 use Rattle.calendar.proofs.year.Laws.{new-year-returns}
 pub use Rattle.calendar.proofs.year.Laws.{leap-years-return}
@@ -23,13 +23,13 @@ use Rattle.calendar.specs.Range.{between}
 use Rattle.calendar.specs.Refusal.{Holds, Lowest}
 use Rattle.calendar.specs.Return.{ReturnsAfter, weekdayPeriod}
 use Rattle.calendar.specs.Span.{firstDay, lastDay, earliest, inSpan, spanTests, dayOrRefusal}
-use Rattle.calendar.specs.Style.{styleNumber, datesBy, calendarBy, styleOf, styleRefusal, styleOrZero, byNumber}
+use Rattle.calendar.specs.Style.{styleNumber, datesBy, calendarBy, styleBy, styleOf, styleRefusal, styleOrZero, byNumber}
 use Rattle.calendar.specs.Weekday.{weekday, weekdayOfDay, weekdayRefusal, firstWeekday, leastAway}
 use Rattle.calendar.specs.Year.{daysOfYears, firstYear, newYear, served}
 use Rattle.calendar.specs.declared.date.DateAnswer.the-variants.{On, NoDate}
 use Rattle.calendar.specs.declared.date.DateAnswer.{DateAnswer}
 use Rattle.calendar.specs.declared.distance.DistanceAnswer.the-variants.{Days}
-use Rattle.calendar.specs.declared.refusal.Refusal.the-variants.{Name}
+use Rattle.calendar.specs.declared.refusal.Refusal.the-variants.{Name, Span}
 use Rattle.calendar.specs.declared.span.DayAnswer.the-variants.{Day, NoDay}
 use Rattle.calendar.specs.declared.span.DayAnswer.{DayAnswer}
 use Rattle.calendar.specs.declared.style.Calendar.the-variants.{Julian, Gregorian}
@@ -53,19 +53,14 @@ one-answer k n r r′ h h′ = both-in (styleOf k) (λ s. one-answer-in-style s 
 pub style-numbers : (k : ℕ)
     → ((styleRefusal (styleOf k) ≡ 0) × (styleOrZero (styleOf k) ≡ k))
     ⊎ ((styleRefusal (styleOf k) ≡ 1) × ((s : Style) → styleNumber s ≡ k → ⊥))
-unfolding styleOf
-style-numbers k = go _ _ refl refl
+style-numbers k = rw (by-range k) (go _ refl)
   where
-    none : (s : Style) → eqb k 1 ≡ false → eqb k 2 ≡ false → styleNumber s ≡ k → ⊥
-    none J p q e = eqb-false k 1 p (sym e)
-    none G p q e = eqb-false k 2 q (sym e)
-
-    go : (a b : Bool) → eqb k 1 ≡ a → eqb k 2 ≡ b
-        → let t = cond a (Known J) (cond b (Known G) (NoStyle Name)) in
+    go : (b : Bool) → between 1 k 3 ≡ b
+        → let t = cond b (Known (styleBy k)) (NoStyle Name) in
         ((styleRefusal t ≡ 0) × (styleOrZero t ≡ k)) ⊎ ((styleRefusal t ≡ 1) × ((s : Style) → styleNumber s ≡ k → ⊥))
-    go true b p q = inl (refl, sym (eqb-true k 1 p))
-    go false true p q = inl (refl, sym (eqb-true k 2 q))
-    go false false p q = inr (refl, λ s e. none s p q e)
+    go true e = let r = range 1 k 3 e in inl (refl, number-kept k (r .0) (r .1))
+    go false e =
+        inr (refl, λ s own. let r = number-range s in true≢false (sym (in-range 1 k 3 (omega (arith, own)) (omega (arith, own))) ∙ e))
 
 -- A calendar has one truth value by which it is handed on.
 pub one-truth : (a b : Bool) → calendarBy a ≡ calendarBy b → a ≡ b
@@ -136,24 +131,37 @@ span-ends = (refl, (refl, λ c. last c))
     last Julian = refl
     last Gregorian = refl
 
--- Both styles may name the same day: 5 October 1582 J is 15 October 1582 G, the day 2299161.
+-- Styles whose dates go by one calendar have the same day for every date, and the same date for every day, as G and O do.
+pub same-dates : (s s′ : Style) (y m d : ℕ) → datesBy s ≡ datesBy s′ → dayOfDate (styleNumber s) y m d ≡ dayOfDate (styleNumber s′) y m d
+same-dates s s′ y m d e = rw (by-number s, by-number s′, e)
+
+pub same-date-of-day : (s s′ : Style) (n : ℕ) (r : DateAnswer) → datesBy s ≡ datesBy s′
+    → IsDateOfDay (styleNumber s) n r → IsDateOfDay (styleNumber s′) n r
+same-date-of-day s s′ n r e h = rw (by-number s′, ← e) (rw (by-number s) at h)
+
+-- Styles of both calendars may name the same day: 5 October 1582 J is 15 October 1582 G, the day 2299161.
 pub same-day : (dayOfDate (styleNumber J) 1582 10 5 ≡ Day 2299161) × (dayOfDate (styleNumber G) 1582 10 15 ≡ Day 2299161)
 unfolding styleOf dayInCalendar served isDate inSpan between dayNumber daysOfMonths newYear daysOfYears
 same-day = (refl, refl)
 
--- A G year below 1582 is refused by 4, whatever the month and the day.
-pub early-year : (y m d : ℕ) → y < 1582 → dayOrRefusal (dayOfDate (styleNumber G) y m d) ≡ 4
-unfolding styleOf dayInCalendar served between
-early-year y m d h = rw (lt-leb 1582 y h)
+-- Where dates go by G, a year below 1582 is refused by 4, whatever the month and the day.
+pub early-year : (s : Style) (y m d : ℕ) → datesBy s ≡ Gregorian → y < 1582 → dayOrRefusal (dayOfDate (styleNumber s) y m d) ≡ 4
+unfolding dayInCalendar served between
+early-year s y m d e h = rw (by-number s, e, lt-leb 1582 y h)
 
--- "5 to 14 October 1582 G are dates, but outside the span."
-pub lost-days : (d : ℕ) → 5 ≤ d → d ≤ 14
-    → (isDate Gregorian 1582 10 d ≡ true) × (dayOrRefusal (dayOfDate (styleNumber G) 1582 10 d) ≡ 6)
-unfolding styleOf dayInCalendar served isDate inSpan between dayNumber daysOfMonths newYear daysOfYears
-lost-days d low high = (
+-- "5 to 14 October 1582 G are dates, but outside the span.", and so they are in O.
+lost-in-g : (d : ℕ) → 5 ≤ d → d ≤ 14 → (isDate Gregorian 1582 10 d ≡ true) × (dayInCalendar Gregorian 1582 10 d ≡ NoDay Span)
+unfolding dayInCalendar served isDate inSpan between dayNumber daysOfMonths newYear daysOfYears
+lost-in-g d low high = (
   rw (le-leb 1 d (omega arith), le-leb d 31 (omega arith)),
   rw (le-leb 1 d (omega arith), le-leb d 31 (omega arith), lt-leb 2299161 (2299147 + pred d) (omega arith)),
 )
+
+pub lost-days : (s : Style) (d : ℕ) → datesBy s ≡ Gregorian → 5 ≤ d → d ≤ 14
+    → (isDate (datesBy s) 1582 10 d ≡ true) × (dayOrRefusal (dayOfDate (styleNumber s) 1582 10 d) ≡ 6)
+lost-days s d e low high =
+    let lost = lost-in-g d low high in
+    (rw e (lost .0), rw (by-number s, e, lost .1))
 
 -- A distance lies from -3652133 to 3652133.
 pub distance-range : (k y m d k′ y′ m′ d′ : ℕ) (z : ℤ) → distanceOfDays (dayOfDate k y m d) (dayOfDate k′ y′ m′ d′) ≡ Days z

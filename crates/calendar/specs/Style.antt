@@ -9,30 +9,34 @@ use Rattle.calendar.specs.declared.refusal.Refusal.the-variants.{Name}
 use Rattle.calendar.specs.declared.refusal.Refusal.{Refusal}
 use Rattle.calendar.specs.declared.style.Calendar.the-variants.{Julian, Gregorian}
 use Rattle.calendar.specs.declared.style.Calendar.{Calendar}
-use Rattle.calendar.specs.declared.style.Style.the-variants.{J, G}
+use Rattle.calendar.specs.declared.style.Style.the-variants.{J, G, O}
 use Rattle.calendar.specs.declared.style.Style.{Style}
 use Rattle.calendar.specs.declared.style.StyleAnswer.the-variants.{Known, NoStyle}
 use Rattle.calendar.specs.declared.style.StyleAnswer.{StyleAnswer}
 
--- "J (Julian, number 1) and G (Gregorian, number 2)"
+-- "J (Julian, number 1) and G (Gregorian, number 2)"; "O is style number 3 and a line's letter"
 abbrev pub styleNumber : Style → ℕ
 styleNumber J = 1
 styleNumber G = 2
+styleNumber O = 3
 
 -- the byte of the style's letter
 abbrev pub styleLetter : Style → ℕ
 styleLetter J = code "J"
 styleLetter G = code "G"
+styleLetter O = code "O"
 
--- the calendar that the style's dates go by
+-- the calendar that the style's dates go by; in O "dates, span and leap years of G"
 abbrev pub datesBy : Style → Calendar
 datesBy J = Julian
 datesBy G = Gregorian
+datesBy O = Gregorian
 
--- the calendar that its Easter goes by
+-- the calendar that its Easter goes by; in O "Easter the same day as the J rule gives for that year"
 abbrev pub easterBy : Style → Calendar
 easterBy J = Julian
 easterBy G = Gregorian
+easterBy O = Julian
 
 -- the style that goes wholly by one calendar
 abbrev pub wholly : Calendar → Style
@@ -46,14 +50,15 @@ calendarBy false = Julian
 
 -- the style by its number; J for any other number
 abbrev pub styleBy : ℕ → Style
-styleBy n = cond (eqb n (styleNumber G)) G J
+styleBy n = cond (eqb n (styleNumber G)) G (cond (eqb n (styleNumber O)) O J)
 
 -- refusal 1: "a style .. number given to a public call is not in its list"
 unfoldable pub styleOf : ℕ → StyleAnswer
 styleOf n =
     cond (eqb n (styleNumber J)) (Known J)
     (cond (eqb n (styleNumber G)) (Known G)
-    (NoStyle Name))
+    (cond (eqb n (styleNumber O)) (Known O)
+    (NoStyle Name)))
 
 -- the refusal's number, or 0 where there is none
 abbrev pub styleRefusal : StyleAnswer → ℕ

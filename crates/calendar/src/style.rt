@@ -16,6 +16,8 @@ pub enum Style {
     J,
     // The Gregorian calendar.
     G,
+    // Old Easter with new dates: dates of the Gregorian calendar, and Easter by the Julian.
+    O,
 }
 
 // A style, or why there is none.
@@ -28,7 +30,7 @@ pub enum StyleAnswer {
 pub fn style_of(number: u64) -> StyleAnswer
     ensures { λ r. ⌜ r ≡ styleOf number ⌝ }
 {
-    if !is_between(1, number, 2) {
+    if !is_between(1, number, 3) {
         return StyleAnswer::NoStyle(Refusal::Name);
     }
     StyleAnswer::Known(style_by(number))
@@ -38,10 +40,11 @@ pub fn style_of(number: u64) -> StyleAnswer
 pub fn style_by(number: u64) -> Style
     ensures { λ r. ⌜ r ≡ styleBy number ⌝ }
 {
-    if number == 2 {
-        return Style::G;
+    match number {
+        2 => Style::G,
+        3 => Style::O,
+        _ => Style::J,
     }
-    Style::J
 }
 
 // The number of a style.
@@ -51,6 +54,7 @@ pub fn style_number(style: Style) -> u64
     match style {
         Style::J => 1,
         Style::G => 2,
+        Style::O => 3,
     }
 }
 
@@ -61,6 +65,7 @@ pub fn dates_by(style: Style) -> Calendar
     match style {
         Style::J => Calendar::Julian,
         Style::G => Calendar::Gregorian,
+        Style::O => Calendar::Gregorian,
     }
 }
 
@@ -71,6 +76,7 @@ pub fn easter_by(style: Style) -> Calendar
     match style {
         Style::J => Calendar::Julian,
         Style::G => Calendar::Gregorian,
+        Style::O => Calendar::Julian,
     }
 }
 
@@ -101,5 +107,6 @@ pub fn style_letter(style: Style) -> u8
     match style {
         Style::J => b'J',
         Style::G => b'G',
+        Style::O => b'O',
     }
 }

@@ -15,10 +15,11 @@ pub use Rattle.church.proofs.arithmetic.Laws.{brought-by-thirties}
 use Rattle.church.proofs.column.Laws.{walked}
 use Rattle.church.proofs.easter.Laws as easter-laws
 pub use Rattle.church.proofs.easter.Laws.{firstEaster, easter-years, limit-range, equinox-weekday, key-closed, easter-in-span}
+use Rattle.church.proofs.easter.Order as order-laws
 use Rattle.church.proofs.epact.Laws as epact-laws
 pub use Rattle.church.proofs.epact.Laws.{epact-small}
 use Rattle.church.proofs.feast.Laws as feast-laws
-pub use Rattle.church.proofs.feast.Laws.{feast-date-exists, feast-in-year, matthias-before-march, only-matthias}
+pub use Rattle.church.proofs.feast.Laws.{feast-date-exists, feast-in-year, same-easter, same-others, matthias-before-march, only-matthias}
 use Rattle.church.proofs.letter.Laws as letter-laws
 use Rattle.church.proofs.period.Laws as period-laws
 pub use Rattle.church.proofs.period.Laws.{epact-closed, same-limit, same-key, same-letters, same-feasts}
@@ -42,6 +43,7 @@ use Rattle.church.specs.Sheet.{IsSheetOf, IsSheetOfYear, sheetRefusal, y
 use Rattle.calendar.specs.declared.span.DayAnswer.the-variants.{Day, NoDay}
 use Rattle.calendar.specs.declared.style.Calendar.the-variants.{Gregorian}
 use Rattle.calendar.specs.declared.style.Calendar.{Calendar}
+use Rattle.calendar.specs.declared.style.Style.the-variants.{J, G, O}
 use Rattle.calendar.specs.declared.style.Style.{Style}
 use Rattle.calendar.specs.declared.year.NamedYear.{NamedYear}
 use Rattle.church.specs.declared.sheet.SheetAnswer.the-variants.{Sheet, NoSheet}
@@ -101,6 +103,19 @@ easter-sunday c y =
     let f = easter-laws.easter-facts c y in
     (f .falls, f .later, f .week)
 
+-- In every style, in a year that has a sheet, Easter is a Sunday, and the key is its distance from 21 March of the calendar that the dates go by.
+pub key-counts : (s : Style) (y : ℕ) → hasEaster (datesBy s) y ≡ true
+    → (weekday (easter (easterBy s) y) ≡ sunday) × (march (datesBy s) y 21 + key s y ≡ easter (easterBy s) y)
+key-counts s y h = (easter-sunday (easterBy s) y .0, easter-laws.key-counts s y (easter-laws.key-fits s y h .0))
+
+-- In O the key lies from 11 to 108 in the years that have a sheet.
+pub old-key-range : (y : ℕ) → hasEaster (datesBy O) y ≡ true → (11 ≤ key O y) × (key O y ≤ 108)
+old-key-range = easter-laws.old-key-range
+
+-- The Easter of O is never before that of G of the same year, from 500 on and so in every year that has a sheet.
+pub easter-order : (y : ℕ) → 500 ≤ y → easter (easterBy G) y ≤ easter (easterBy O) y
+easter-order = order-laws.easter-order
+
 -- Each part of a year has one Sunday letter.
 pub has-letter : (c : Calendar) (y : ℕ) (p : Part) → (l : ℕ) × SundayLetter c y p l
 has-letter c y p = (letter-laws.closed p (leap c y) (march c y 21), letter-laws.sundays c y p)
@@ -155,6 +170,15 @@ forty-eight = refl
 pub feast-answered : (s : Style) (y f : ℕ) → hasEaster (datesBy s) y ≡ true → between 1 f 48 ≡ true
     → feastOfYear (styleNumber s) f y ≡ Day (ruleNumber (rule f) s y)
 feast-answered s y f h e = rw by-number (feast-laws.feast-answered s y f h e)
+
+-- The Easter of O, and every feast that hangs on it, is that of J: styles whose Easter goes by one calendar keep what hangs on it on the same days
+-- (`same-easter`).
+pub old-easter : (y f : ℕ) → hasEaster (datesBy O) y ≡ true → between 1 f 23 ≡ true → feastOfYear (styleNumber O) f y ≡ feastOfYear (styleNumber J) f y
+old-easter y f h e = rw (by-number O, by-number J) (same-easter O J y f refl h (easter-laws.both-have O y h) e)
+
+-- Every other feast of O is that of G: styles whose dates go by one calendar keep what does not hang on Easter on the same days (`same-others`).
+pub new-dates : (y f : ℕ) → between 24 f 48 ≡ true → feastOfYear (styleNumber O) f y ≡ feastOfYear (styleNumber G) f y
+new-dates y f e = rw (by-number O, by-number G) (same-others O G y f refl e)
 
 -- Feast 27 is Matthias, with a date for common years and one for leap years; no other feast has such a rule (`only-matthias`). In every year he lies five days
 -- before 1 March, on the sixth day where both ends are counted, as the Romans did (`matthias-before-march`).

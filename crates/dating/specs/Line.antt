@@ -24,7 +24,7 @@ pub record Line : Type 0 where
   pub phrase : Phrase
   pub named : NamedYear
 
--- what stands behind the phrase: "a space, a year, a space, and J or G"
+-- what stands behind the phrase: "a space, a year, a space, and J or G", or O: "O is .. a line's letter"
 abbrev pub ending : NamedYear → List ℕ
 ending t = space ∷ (numeral (t .year) ++ space ∷ styleLetter (t .style) ∷ [])
 
@@ -32,7 +32,7 @@ ending t = space ∷ (numeral (t .year) ++ space ∷ styleLetter (t .style) ∷ 
 abbrev pub GoodYear : NamedYear → Type 0
 GoodYear t = (1 ≤ t .year) × (t .year ≤ 9999)
 
--- "A line is a phrase, a space, a year, a space, and J or G."
+-- "A line is a phrase, a space, a year, a space, and J or G.", or O
 unfoldable pub spellLine : Line → List ℕ
 spellLine l = spellPhrase (l .phrase) ++ ending (l .named)
 

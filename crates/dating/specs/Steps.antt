@@ -16,7 +16,7 @@ use Rattle.dating.specs.Phrase.{Phrase, spellPhrase, GoodPhrase}
 use Rattle.dating.specs.Writer.{IsDateText}
 use Rattle.calendar.specs.declared.span.DayAnswer.the-variants.{Day, NoDay}
 use Rattle.calendar.specs.declared.span.DayAnswer.{DayAnswer}
-use Rattle.calendar.specs.declared.style.Style.the-variants.{J, G}
+use Rattle.calendar.specs.declared.style.Style.the-variants.{J, G, O}
 use Rattle.calendar.specs.declared.style.Style.{Style}
 use Rattle.calendar.specs.declared.weekday.Side.the-variants.{After, Before}
 use Rattle.calendar.specs.declared.weekday.Side.{Side}
@@ -47,11 +47,11 @@ phrases = record { Tree = Phrase; Good = GoodPhrase; spell = spellPhrase }
 
 -- the byte is the letter of a style
 abbrev pub isStyleLetter : ℕ → Bool
-isStyleLetter x = eqb x (styleLetter G) || eqb x (styleLetter J)
+isStyleLetter x = eqb x (styleLetter G) || eqb x (styleLetter J) || eqb x (styleLetter O)
 
 -- the style whose letter the byte is; J for any other byte
 abbrev pub styleOfLetter : ℕ → Style
-styleOfLetter x = cond (eqb x (styleLetter G)) G J
+styleOfLetter x = cond (eqb x (styleLetter G)) G (cond (eqb x (styleLetter O)) O J)
 
 -- any bytes before a year and a style letter
 pub record Ended : Type 0 where

@@ -35,24 +35,23 @@ pub(crate) enum Reading {
 fn is_style_letter(byte: u8) -> bool
     ensures { λ r. ⌜ r ≡ isStyleLetter byte ⌝ }
 {
-    if byte < b'G' {
-        return false;
+    match byte {
+        b'G' => true,
+        b'J' => true,
+        b'O' => true,
+        _ => false,
     }
-    if byte > b'J' {
-        return false;
-    }
-    // Of the bytes of G, H, I and J, those of G and J alone leave 2 when they are divided by 3.
-    byte % 3 == 2
 }
 
 // The style whose letter a byte is; J for any other byte.
 fn style_of_letter(letter: u8) -> Style
     ensures { λ r. ⌜ r ≡ styleOfLetter letter ⌝ }
 {
-    if letter == b'G' {
-        return Style::G;
+    match letter {
+        b'G' => Style::G,
+        b'O' => Style::O,
+        _ => Style::J,
     }
-    Style::J
 }
 
 // What stands behind the phrase of a line.

@@ -19,6 +19,8 @@ const JULIAN: u64 = 1;
 
 const GREGORIAN: u64 = 2;
 
+const OLD_EASTER: u64 = 3;
+
 const HUGE: u64 = 18446744073709551615;
 
 // One more than the largest 32-bit number: a number that is cut on its way in loses it.
@@ -142,9 +144,10 @@ fn ask_around(style: u64, day: u64) {
     ask_date_and_weekday(style, std::num::wrapping_add_u64(day, 1));
 }
 
-fn ask_day_in_both_styles(year: u64, month: u64, day: u64) {
+fn ask_day_in_each_style(year: u64, month: u64, day: u64) {
     ask_day(JULIAN, year, month, day);
     ask_day(GREGORIAN, year, month, day);
+    ask_day(OLD_EASTER, year, month, day);
 }
 
 // The distance and the way back.
@@ -191,16 +194,17 @@ fn julian_span_ends() {
     ask_around(JULIAN, 5373557);
 }
 
-fn gregorian_span_ends() {
-    ask_day(GREGORIAN, 1582, 10, 13);
-    ask_day(GREGORIAN, 1582, 10, 14);
-    ask_day(GREGORIAN, 1582, 10, 15);
-    ask_day(GREGORIAN, 1582, 10, 16);
-    ask_day(GREGORIAN, 9999, 12, 30);
-    ask_day(GREGORIAN, 9999, 12, 31);
-    ask_day(GREGORIAN, 10000, 1, 1);
-    ask_around(GREGORIAN, 2299161);
-    ask_around(GREGORIAN, 5373484);
+// The ends of the span of a style with Gregorian dates.
+fn gregorian_span_ends(style: u64) {
+    ask_day(style, 1582, 10, 13);
+    ask_day(style, 1582, 10, 14);
+    ask_day(style, 1582, 10, 15);
+    ask_day(style, 1582, 10, 16);
+    ask_day(style, 9999, 12, 30);
+    ask_day(style, 9999, 12, 31);
+    ask_day(style, 10000, 1, 1);
+    ask_around(style, 2299161);
+    ask_around(style, 5373484);
 }
 
 // The ends of one style's span in the other style, and the smallest numbers.
@@ -211,18 +215,22 @@ fn days_of_one_style() {
     ask_date_and_weekday(JULIAN, 5373485);
     ask_date_and_weekday(GREGORIAN, 1721424);
     ask_date_and_weekday(GREGORIAN, 5373557);
+    ask_date_and_weekday(OLD_EASTER, 1721424);
+    ask_date_and_weekday(OLD_EASTER, 5373557);
     ask_date_and_weekday(JULIAN, 0);
     ask_date_and_weekday(JULIAN, 1);
     ask_date_and_weekday(GREGORIAN, 0);
     ask_date_and_weekday(GREGORIAN, 1);
+    ask_date_and_weekday(OLD_EASTER, 0);
+    ask_date_and_weekday(OLD_EASTER, 1);
 }
 
 fn october_1582() {
-    ask_day_in_both_styles(1582, 10, 4);
-    ask_day_in_both_styles(1582, 10, 5);
-    ask_day_in_both_styles(1582, 10, 14);
-    ask_day_in_both_styles(1582, 10, 15);
-    ask_day_in_both_styles(1582, 10, 31);
+    ask_day_in_each_style(1582, 10, 4);
+    ask_day_in_each_style(1582, 10, 5);
+    ask_day_in_each_style(1582, 10, 14);
+    ask_day_in_each_style(1582, 10, 15);
+    ask_day_in_each_style(1582, 10, 31);
 }
 
 fn year_ends(style: u64, year: u64) {
@@ -241,6 +249,12 @@ fn served_years() {
     year_ends(GREGORIAN, 1583);
     year_ends(GREGORIAN, 9999);
     year_ends(GREGORIAN, 10000);
+    year_ends(OLD_EASTER, 1);
+    year_ends(OLD_EASTER, 1581);
+    year_ends(OLD_EASTER, 1582);
+    year_ends(OLD_EASTER, 1583);
+    year_ends(OLD_EASTER, 9999);
+    year_ends(OLD_EASTER, 10000);
 }
 
 fn february_end(style: u64, year: u64) {
@@ -250,23 +264,24 @@ fn february_end(style: u64, year: u64) {
     ask_day(style, year, 3, 1);
 }
 
-fn february_end_in_both_styles(year: u64) {
+fn february_end_in_each_style(year: u64) {
     february_end(JULIAN, year);
     february_end(GREGORIAN, year);
+    february_end(OLD_EASTER, year);
 }
 
 fn leap_days() {
     february_end(JULIAN, 4);
     february_end(JULIAN, 100);
     february_end(JULIAN, 400);
-    february_end_in_both_styles(1582);
-    february_end_in_both_styles(1583);
-    february_end_in_both_styles(1600);
-    february_end_in_both_styles(1700);
-    february_end_in_both_styles(1900);
-    february_end_in_both_styles(2000);
-    february_end_in_both_styles(2024);
-    february_end_in_both_styles(2025);
+    february_end_in_each_style(1582);
+    february_end_in_each_style(1583);
+    february_end_in_each_style(1600);
+    february_end_in_each_style(1700);
+    february_end_in_each_style(1900);
+    february_end_in_each_style(2000);
+    february_end_in_each_style(2024);
+    february_end_in_each_style(2025);
 }
 
 // The days around 29 February and around the end of a leap year.
@@ -280,12 +295,15 @@ fn days_of_leap_years() {
     ask_around(GREGORIAN, 2451604);
     ask_date_and_weekday(GREGORIAN, 2451910);
     ask_date_and_weekday(GREGORIAN, 2451911);
+    ask_date_and_weekday(OLD_EASTER, 2415079);
+    ask_date_and_weekday(OLD_EASTER, 2415080);
+    ask_around(OLD_EASTER, 2451604);
 }
 
 // A month's last day and the one past it, in a common year.
 fn month_end(month: u64, last: u64, past: u64) {
-    ask_day_in_both_styles(2025, month, last);
-    ask_day_in_both_styles(2025, month, past);
+    ask_day_in_each_style(2025, month, last);
+    ask_day_in_each_style(2025, month, past);
 }
 
 fn month_ends() {
@@ -304,26 +322,26 @@ fn month_ends() {
 }
 
 fn wrong_dates() {
-    ask_day_in_both_styles(2024, 0, 1);
-    ask_day_in_both_styles(2024, 13, 1);
-    ask_day_in_both_styles(2024, 1, 0);
-    ask_day_in_both_styles(2024, 1, 32);
-    ask_day_in_both_styles(2024, 2, 31);
-    ask_day_in_both_styles(2024, 4, 30);
-    ask_day_in_both_styles(2024, 4, 31);
-    ask_day_in_both_styles(2024, 12, 0);
-    ask_day_in_both_styles(2024, 12, 31);
-    ask_day_in_both_styles(2024, 0, 0);
-    ask_day_in_both_styles(2024, 13, 32);
+    ask_day_in_each_style(2024, 0, 1);
+    ask_day_in_each_style(2024, 13, 1);
+    ask_day_in_each_style(2024, 1, 0);
+    ask_day_in_each_style(2024, 1, 32);
+    ask_day_in_each_style(2024, 2, 31);
+    ask_day_in_each_style(2024, 4, 30);
+    ask_day_in_each_style(2024, 4, 31);
+    ask_day_in_each_style(2024, 12, 0);
+    ask_day_in_each_style(2024, 12, 31);
+    ask_day_in_each_style(2024, 0, 0);
+    ask_day_in_each_style(2024, 13, 32);
 }
 
 // Dates with several things wrong at once.
 fn refusal_order() {
     ask_day(0, 2000, 1, 1);
-    ask_day(3, 2000, 1, 1);
-    ask_day(3, 0, 1, 1);
-    ask_day(3, 2000, 13, 1);
-    ask_day(3, 1582, 10, 14);
+    ask_day(4, 2000, 1, 1);
+    ask_day(4, 0, 1, 1);
+    ask_day(4, 2000, 13, 1);
+    ask_day(4, 1582, 10, 14);
     ask_day(0, 10000, 0, 0);
     ask_day(JULIAN, 0, 13, 1);
     ask_day(JULIAN, 0, 1, 32);
@@ -341,10 +359,15 @@ fn refusal_order() {
     ask_day(GREGORIAN, 1582, 10, 0);
     ask_day(GREGORIAN, 1582, 10, 32);
     ask_day(GREGORIAN, 1582, 1, 1);
+    ask_day(OLD_EASTER, 0, 0, 0);
+    ask_day(OLD_EASTER, 1581, 2, 29);
+    ask_day(OLD_EASTER, 10000, 1, 0);
+    ask_day(OLD_EASTER, 1582, 2, 29);
+    ask_day(OLD_EASTER, 1582, 1, 1);
     ask_date_and_weekday(0, 2415092);
-    ask_date_and_weekday(3, 2415092);
+    ask_date_and_weekday(4, 2415092);
     ask_date_and_weekday(0, 0);
-    ask_date_and_weekday(3, 5373558);
+    ask_date_and_weekday(4, 5373558);
 }
 
 fn distances() {
@@ -354,6 +377,10 @@ fn distances() {
     ask_both_distances(JULIAN, 1, 1, 1, GREGORIAN, 9999, 12, 31);
     ask_both_distances(GREGORIAN, 1582, 10, 15, JULIAN, 9999, 12, 31);
     ask_both_distances(GREGORIAN, 9999, 12, 31, JULIAN, 9999, 12, 31);
+    ask_both_distances(OLD_EASTER, 1582, 10, 15, OLD_EASTER, 9999, 12, 31);
+    ask_both_distances(OLD_EASTER, 1582, 10, 15, JULIAN, 9999, 12, 31);
+    ask_both_distances(OLD_EASTER, 2024, 5, 5, JULIAN, 2024, 4, 22);
+    ask_both_distances(OLD_EASTER, 1900, 3, 1, GREGORIAN, 1900, 3, 1);
     ask_both_distances(JULIAN, 1, 1, 1, JULIAN, 1, 1, 1);
     ask_both_distances(JULIAN, 1582, 10, 5, GREGORIAN, 1582, 10, 15);
     ask_both_distances(JULIAN, 1582, 10, 4, GREGORIAN, 1582, 10, 15);
@@ -367,16 +394,17 @@ fn distances() {
 
 // One date is bad, and then both are, by different numbers.
 fn refused_distances() {
-    ask_both_distances(JULIAN, 1900, 2, 29, 3, 2000, 1, 1);
+    ask_both_distances(JULIAN, 1900, 2, 29, 4, 2000, 1, 1);
     ask_both_distances(JULIAN, 1900, 2, 29, GREGORIAN, 1581, 1, 1);
     ask_both_distances(JULIAN, 1900, 2, 29, GREGORIAN, 1900, 2, 29);
     ask_both_distances(JULIAN, 1900, 2, 29, GREGORIAN, 1582, 10, 14);
-    ask_both_distances(GREGORIAN, 1582, 10, 14, 3, 2000, 1, 1);
+    ask_both_distances(GREGORIAN, 1582, 10, 14, 4, 2000, 1, 1);
+    ask_both_distances(OLD_EASTER, 1582, 10, 14, OLD_EASTER, 1581, 1, 1);
     ask_both_distances(GREGORIAN, 1582, 10, 14, GREGORIAN, 1581, 1, 1);
     ask_both_distances(GREGORIAN, 1582, 10, 14, GREGORIAN, 1900, 2, 29);
-    ask_both_distances(GREGORIAN, 1900, 2, 29, 3, 2000, 1, 1);
+    ask_both_distances(GREGORIAN, 1900, 2, 29, 4, 2000, 1, 1);
     ask_both_distances(GREGORIAN, 1900, 2, 29, JULIAN, 0, 1, 1);
-    ask_both_distances(JULIAN, 0, 1, 1, 3, 2000, 1, 1);
+    ask_both_distances(JULIAN, 0, 1, 1, 4, 2000, 1, 1);
 }
 
 // Each argument in turn beside a good rest: 29 February 2024 is a date in both styles.
@@ -445,15 +473,18 @@ fn huge_distances() {
 fn huge_numbers() {
     huge_dates(JULIAN);
     huge_dates(GREGORIAN);
+    huge_dates(OLD_EASTER);
     huge_days(JULIAN);
     huge_days(GREGORIAN);
+    huge_days(OLD_EASTER);
     huge_distances();
 }
 
 fn main() {
     days_to_check_by();
     julian_span_ends();
-    gregorian_span_ends();
+    gregorian_span_ends(GREGORIAN);
+    gregorian_span_ends(OLD_EASTER);
     days_of_one_style();
     october_1582();
     served_years();

@@ -10,6 +10,8 @@ const JULIAN: u64 = 1;
 
 const GREGORIAN: u64 = 2;
 
+const OLD_EASTER: u64 = 3;
+
 const HUGE: u64 = 18446744073709551615;
 
 // One more than the largest 32-bit number: a number that is cut on its way in loses it.
@@ -61,6 +63,8 @@ fn span_ends() {
     ask_around(JULIAN, 5373557);
     ask_around(GREGORIAN, 2299161);
     ask_around(GREGORIAN, 5373484);
+    ask_around(OLD_EASTER, 2299161);
+    ask_around(OLD_EASTER, 5373484);
 }
 
 // The Julian dates of the Gregorian style's first day and of the day before.
@@ -78,6 +82,8 @@ fn date_lengths() {
     ask(JULIAN, 1757866);
     ask(GREGORIAN, 2300796);
     ask(GREGORIAN, 2451544);
+    ask(OLD_EASTER, 2300796);
+    ask(OLD_EASTER, 2460436);
 }
 
 // 29 February, and in the Gregorian 1900 the days about the place where it is left out.
@@ -88,6 +94,9 @@ fn leap_days() {
     ask(GREGORIAN, 2415080);
     ask(GREGORIAN, 2451604);
     ask(GREGORIAN, 2460370);
+    ask(OLD_EASTER, 2415079);
+    ask(OLD_EASTER, 2415080);
+    ask(OLD_EASTER, 2460370);
 }
 
 fn ask_in_buffers(style: u64, day: u64) {
@@ -103,6 +112,8 @@ fn buffers() {
     ask_in_buffers(JULIAN, 1721424);
     ask_in_buffers(GREGORIAN, 5373484);
     ask_in_buffers(GREGORIAN, 5373485);
+    ask_in_buffers(OLD_EASTER, 5373484);
+    ask_in_buffers(OLD_EASTER, 5373485);
 }
 
 // A good rest, a day outside the span, a short buffer, and both.
@@ -115,7 +126,7 @@ fn ask_of_bad_style(style: u64) {
 
 fn bad_styles() {
     ask_of_bad_style(0);
-    ask_of_bad_style(3);
+    ask_of_bad_style(4);
     ask_of_bad_style(HUGE);
 }
 
@@ -129,6 +140,7 @@ fn ask_of_bad_days(style: u64) {
 fn bad_days() {
     ask_of_bad_days(JULIAN);
     ask_of_bad_days(GREGORIAN);
+    ask_of_bad_days(OLD_EASTER);
 }
 
 fn main() {

@@ -2,8 +2,8 @@
 use mathlib.Core.Bool.{Bool, true, false, cond, true≢false}
 use mathlib.Core.List.{List, [], _∷_}
 use mathlib.Core.Logic.{_↔_}
-use mathlib.Core.Path.{_≡_, refl, sym, _∙_}
-use Prim.Native.Nat.{ℕ, zero, suc}
+use mathlib.Core.Path.{_≡_, refl, sym, _∙_, subst}
+use Prim.Native.Nat.{ℕ, zero, suc, _≤_}
 use native.Mathlib.Omega.{arith}
 use lib.Dec.{T, eqb}
 use borrow.Author.Tests.{ne-eqb, le-leb, lt-leb}
@@ -13,7 +13,7 @@ use Rattle.calendar.specs.Refusal.{refusalNumber, Test, _unless_, checke
 use Rattle.calendar.specs.Style.{styleNumber, styleBy, styleOf, inStyle, byNumber}
 use Rattle.calendar.specs.declared.refusal.Refusal.the-variants.{Name}
 use Rattle.calendar.specs.declared.refusal.Refusal.{Refusal}
-use Rattle.calendar.specs.declared.style.Style.the-variants.{J, G}
+use Rattle.calendar.specs.declared.style.Style.the-variants.{J, G, O}
 use Rattle.calendar.specs.declared.style.Style.{Style}
 use Rattle.calendar.specs.declared.style.StyleAnswer.the-variants.{Known, NoStyle}
 use Rattle.calendar.specs.declared.style.StyleAnswer.{StyleAnswer}
@@ -23,24 +23,40 @@ pub by-number : (s : Style) → styleOf (styleNumber s) ≡ Known s
 unfolding styleOf
 by-number J = refl
 by-number G = refl
+by-number O = refl
 
 -- the numbers of styles are a range
-pub by-range : (n : ℕ) → styleOf n ≡ cond (between 1 n 2) (Known (styleBy n)) (NoStyle Name)
+pub by-range : (n : ℕ) → styleOf n ≡ cond (between 1 n 3) (Known (styleBy n)) (NoStyle Name)
 unfolding styleOf between
 by-range zero = refl
 by-range (suc zero) = refl
 by-range (suc (suc zero)) = refl
-by-range (suc (suc (suc n))) =
-    let k = suc (suc (suc n)) in
-    rw (ne-eqb k 1 (λ e. omega arith), ne-eqb k 2 (λ e. omega arith), le-leb 1 k (omega arith), lt-leb k 2 (omega arith))
+by-range (suc (suc (suc zero))) = refl
+by-range (suc (suc (suc (suc n)))) =
+    let k = suc (suc (suc (suc n))) in
+    rw (ne-eqb k 1 (λ e. omega arith), ne-eqb k 2 (λ e. omega arith), ne-eqb k 3 (λ e. omega arith), le-leb 1 k (omega arith), lt-leb k 3 (omega arith))
+
+-- which are the styles' own
+pub number-range : (s : Style) → (1 ≤ styleNumber s) × (styleNumber s ≤ 3)
+number-range J = omega arith
+number-range G = omega arith
+number-range O = omega arith
+
+pub number-kept : (k : ℕ) → 1 ≤ k → k ≤ 3 → styleNumber (styleBy k) ≡ k
+number-kept zero low high = absurd (omega arith)
+number-kept (suc zero) low high = refl
+number-kept (suc (suc zero)) low high = refl
+number-kept (suc (suc (suc zero))) low high = refl
+number-kept (suc (suc (suc (suc k)))) low high = absurd (omega arith)
 
 -- a style that is known by a number is the style by that number
 pub by-its-number : (s : Style) → styleBy (styleNumber s) ≡ s
 by-its-number J = refl
 by-its-number G = refl
+by-its-number O = refl
 
 pub known-by : (k : ℕ) (s : Style) → styleOf k ≡ Known s → styleBy k ≡ s
-known-by k s e = go (between 1 k 2) (sym (by-range k) ∙ e)
+known-by k s e = go (between 1 k 3) (sym (by-range k) ∙ e)
   where
     go : (b : Bool) → cond b (Known (styleBy k)) (NoStyle Name) ≡ Known s → styleBy k ≡ s
     go true h = cc
@@ -48,13 +64,11 @@ known-by k s e = go (between 1 k 2) (sym (by-range k) ∙ e)
 
 -- what holds in each style, and where there is none, holds whatever the number
 pub by-cases {ℓ} : (P : StyleAnswer → Type ℓ) → ((s : Style) → P (Known s)) → P (NoStyle Name) → (k : ℕ) → P (styleOf k)
-unfolding styleOf
-by-cases P known none k = go (eqb k 1) (eqb k 2)
+by-cases P known none k = subst P (sym (by-range k)) (go (between 1 k 3))
   where
-    go : (a b : Bool) → P (cond a (Known J) (cond b (Known G) (NoStyle Name)))
-    go true b = known J
-    go false true = known G
-    go false false = none
+    go : (b : Bool) → P (cond b (Known (styleBy k)) (NoStyle Name))
+    go true = known (styleBy k)
+    go false = none
 
 -- two results of one call, by what follows of them in each style and where they are refused
 pub both-in : {C : Type 0} {refused refused′ : Refusal → Type 0} {call call′ : Style → Type 0} (t : StyleAnswer)

@@ -28,7 +28,7 @@ use Rattle.calendar.specs.declared.refusal.Refusal.{Refusal}
 use Rattle.calendar.specs.declared.span.DayAnswer.the-variants.{Day, NoDay}
 use Rattle.calendar.specs.declared.style.Calendar.the-variants.{Julian, Gregorian}
 use Rattle.calendar.specs.declared.style.Calendar.{Calendar}
-use Rattle.calendar.specs.declared.style.Style.the-variants.{J, G}
+use Rattle.calendar.specs.declared.style.Style.the-variants.{J, G, O}
 use Rattle.calendar.specs.declared.style.Style.{Style}
 use Rattle.calendar.specs.declared.weekday.Side.the-variants.{After}
 use Rattle.calendar.specs.declared.weekday.Start.the-variants.{Uncounted}
@@ -160,7 +160,7 @@ easter-asked c y n h e =
     rw (← e) (m .0, m .1, l .0, l .1)
 
 -- days of March counted from the 21st
-march-from : (c : Calendar) (y d : ℕ) → 21 ≤ d → march c y d ≡ march c y 21 + d - 21
+pub march-from : (c : Calendar) (y d : ℕ) → 21 ≤ d → march c y d ≡ march c y 21 + d - 21
 unfolding march dayNumber
 march-from c y d h = omega arith
 
@@ -210,14 +210,33 @@ pub key-counts : (s : Style) (y : ℕ) → 1 ≤ key s y → march (datesBy s) y
 unfolding key
 key-counts s y h = omega arith
 
+-- by how many days 21 March of J comes after that of G from the year 300 on
+abbrev pub lag : ℕ → ℕ
+lag y = y / 100 - y / 400 - 2
+
+pub equinoxes-apart : (y : ℕ) → 300 ≤ y → march Gregorian y 21 + lag y ≡ march Julian y 21
+equinoxes-apart y h =
+    let one : 1 ≤ y = omega arith in
+    let new = rw (fourth-hundreds y) at (equinox-back Gregorian y one) in
+    omega (arith, equinox-back Julian y one, new)
+
+-- In O the key lies from 11 to 108 in the years that have a sheet.
+pub old-key-range : (y : ℕ) → hasEaster Gregorian y ≡ true → (11 ≤ key O y) × (key O y ≤ 108)
+unfolding key
+old-key-range y h =
+    let r = easter-years Gregorian y .0 h in
+    omega (arith, equinoxes-apart y (omega arith), easter-facts Julian y)
+
 pub key-fits : (s : Style) (y : ℕ) → hasEaster (datesBy s) y ≡ true → KeyFits s y
 key-fits J y h = omega (arith, key-range Julian y)
 key-fits G y h = omega (arith, key-range Gregorian y)
+key-fits O y h = omega (arith, old-key-range y h)
 
 -- where the calendar of the dates has an Easter, that of Easter has one too
 pub both-have : (s : Style) (y : ℕ) → hasEaster (datesBy s) y ≡ true → hasEaster (easterBy s) y ≡ true
 both-have J y h = h
 both-have G y h = h
+both-have O y h = let r = easter-years Gregorian y .0 h in easter-years Julian y .1 (omega arith)
 
 -- days from 63 before Easter to 60 after it
 abbrev pub near : ℤ → Bool

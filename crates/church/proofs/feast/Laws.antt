@@ -1,7 +1,7 @@
 -- The code's tables of feasts, and advent.
-use mathlib.Core.Bool.{Bool, true, false, _&&_, cond}
+use mathlib.Core.Bool.{Bool, true, false, _&&_, not, cond}
 use mathlib.Core.List.{List, [], _∷_}
-use mathlib.Core.Path.{_≡_, refl, _∙_}
+use mathlib.Core.Path.{_≡_, refl, sym, _∙_, ap}
 use Prim.Native.Nat.{ℕ, _+_, _-_, _/_, _%_, _≤_, _<_}
 use native.Mathlib.Omega.{arith}
 use lib.Dec.{T, leb, eqb, leb→le, eqb→eq}
@@ -10,7 +10,7 @@ use lib.ListN.{getD}
 use Rattle.calendar.proofs.Each.{each, below, from-1, of-both, T-both, is-true}
 use Rattle.calendar.proofs.date.Dates.{date-bounds, year-of}
 use Rattle.calendar.proofs.date.Laws.{answered}
-use Rattle.calendar.proofs.range.Laws.{range}
+use Rattle.calendar.proofs.range.Laws.{range, in-range}
 use Rattle.calendar.proofs.span.Laws.{served-small, served-range, span-start, in-span-from}
 use Rattle.calendar.proofs.weekday.Laws.{is-later}
 use Rattle.calendar.specs.Date.{monthLength, daysOfMonths, isDate, dayNumber, dayInCalendar, dayInYear}
@@ -231,6 +231,39 @@ date-exists advent c y g = refl
 pub feast-date-exists : (c : Calendar) (y f : ℕ) → between 1 f 48 ≡ true → dateExists (rule f) c y ≡ true
 feast-date-exists c y f e = date-exists (rule f) c y (rule-good (leap c y) f e)
 
+-- the feasts 1 to 23 hang on Easter, and no others do
+hangs : Rule → Bool
+hangs (hung z) = true
+hangs (on d m) = false
+hangs (onOrInLeapYears d m d′ m′) = false
+hangs advent = false
+
+first-hang : (f : ℕ) → between 1 f 23 ≡ true → T (hangs (rule f))
+unfolding hangs
+first-hang f e = from-1 (λ f. hangs (rule f)) 23 tt f (range 1 f 23 e)
+
+last-free : (f : ℕ) → between 24 f 48 ≡ true → T (not (hangs (rule f)))
+unfolding hangs
+last-free f e =
+    let r = range 24 f 48 e in
+    let place : f - 24 + 24 ≡ f = omega arith in
+    rw place at (below (λ i. not (hangs (rule (i + 24)))) 25 tt (f - 24) (omega arith))
+
+-- what hangs on Easter goes by the one side of a style, and what does not by the other
+same-hung : (r : Rule) (s s′ : Style) (y : ℕ) → T (hangs r) → easterBy s ≡ easterBy s′ → ruleNumber r s y ≡ ruleNumber r s′ y
+unfolding hangs
+same-hung (hung z) s s′ y h e = rw e
+same-hung (on d m) s s′ y h e = absurd h
+same-hung (onOrInLeapYears d m d′ m′) s s′ y h e = absurd h
+same-hung advent s s′ y h e = absurd h
+
+same-free : (r : Rule) (s s′ : Style) (y : ℕ) → T (not (hangs r)) → datesBy s ≡ datesBy s′ → ruleDay (named s y) r ≡ ruleDay (named s′ y) r
+unfolding hangs
+same-free (hung z) s s′ y h e = absurd h
+same-free (on d m) s s′ y h e = rw e
+same-free (onOrInLeapYears d m d′ m′) s s′ y h e = rw e
+same-free advent s s′ y h e = rw e
+
 -- in a year that has an Easter every rule is served
 rule-served : (r : Rule) (c : Calendar) (y : ℕ) → hasEaster c y ≡ true → servedFor r c y ≡ true
 rule-served (hung z) c y h = h
@@ -267,3 +300,19 @@ feast-answered s y f h e =
     let day = ruleNumber (rule f) s y in
     let in-span = year-in-span c y day h (feast-in-year s y f (has-year c y h) (key-fits s y h) e) in
     rw (e, rule-served (rule f) c y h, feast-date-exists c y f e, in-span)
+
+in-whole-table : (f first last : ℕ) → 1 ≤ first → last ≤ 48 → between first f last ≡ true → between 1 f 48 ≡ true
+in-whole-table f first last low high e = let r = range first f last e in in-range 1 f 48 (omega arith) (omega arith)
+
+-- Styles whose Easter goes by one calendar keep what hangs on Easter on the same days, in the years that have an Easter in both.
+pub same-easter : (s s′ : Style) (y f : ℕ) → easterBy s ≡ easterBy s′ → hasEaster (datesBy s) y ≡ true → hasEaster (datesBy s′) y ≡ true
+    → between 1 f 23 ≡ true → feastInYear (named s y) f ≡ feastInYear (named s′ y) f
+same-easter s s′ y f e h h′ i =
+    let listed = in-whole-table f 1 23 (omega arith) (omega arith) i in
+    feast-answered s y f h listed ∙ ap Day (same-hung (rule f) s s′ y (first-hang f i) e) ∙ sym (feast-answered s′ y f h′ listed)
+
+-- Styles whose dates go by one calendar keep every other feast on the same day, or refuse it alike.
+pub same-others : (s s′ : Style) (y f : ℕ) → datesBy s ≡ datesBy s′ → between 24 f 48 ≡ true → feastInYear (named s y) f ≡ feastInYear (named s′ y) f
+same-others s s′ y f e i =
+    let listed = in-whole-table f 24 48 (omega arith) (omega arith) i in
+    in-table (named s y) f listed ∙ same-free (rule f) s s′ y (last-free f i) e ∙ sym (in-table (named s′ y) f listed)

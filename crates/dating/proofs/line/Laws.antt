@@ -1,5 +1,5 @@
 -- Endings and lines: each has one reading, and a line tells what its phrase tells in the year that its ending names.
-use mathlib.Core.Bool.{true, false}
+use mathlib.Core.Bool.{true, false, or-false}
 use mathlib.Core.List.{List, [], _∷_, _++_, append-assoc}
 use mathlib.Core.Logic.{inl, inr}
 use mathlib.Core.Path.{_≡_, refl, sym, _∙_, ap}
@@ -31,7 +31,7 @@ use Rattle.calendar.specs.declared.refusal.Refusal.the-variants.{Length, Form}
 use Rattle.calendar.specs.declared.refusal.Refusal.{Refusal}
 use Rattle.calendar.specs.declared.span.DayAnswer.the-variants.{Day, NoDay}
 use Rattle.calendar.specs.declared.span.DayAnswer.{DayAnswer}
-use Rattle.calendar.specs.declared.style.Style.the-variants.{J, G}
+use Rattle.calendar.specs.declared.style.Style.the-variants.{J, G, O}
 use Rattle.calendar.specs.declared.style.Style.{Style}
 use Rattle.calendar.specs.declared.year.NamedYear.{NamedYear}
 use Rattle.dating.specs.declared.line.Ending.the-variants.{At, NoEnding}
@@ -41,18 +41,23 @@ use Rattle.dating.specs.declared.line.Ending.{Ending}
 its-letter : (s : Style) → (isStyleLetter (styleLetter s) ≡ true) × (styleOfLetter (styleLetter s) ≡ s)
 its-letter J = (refl, refl)
 its-letter G = (refl, refl)
+its-letter O = (refl, refl)
 
 letter-of : (x : ℕ) → isStyleLetter x ≡ true → styleLetter (styleOfLetter x) ≡ x
 letter-of x h =
     elim (either (eqb x (styleLetter G))) [
       | inl g ↦ rw g (sym (eqb-true x (styleLetter G) g))
-      | inr g ↦ rw g (sym (eqb-true x (styleLetter J) (rw g at h)))
+      | inr g ↦ elim (either (eqb x (styleLetter O))) [
+        | inl o ↦ rw (g, o) (sym (eqb-true x (styleLetter O) o))
+        | inr o ↦ rw (g, o) (sym (eqb-true x (styleLetter J) (rw (or-false (eqb x (styleLetter J))) at (rw (g, o) at h))))
+      ]
     ]
 
 no-space : (s : Style) → has space (styleLetter s ∷ []) ≡ false
 unfolding has
 no-space J = refl
 no-space G = refl
+no-space O = refl
 
 -- ---- endings
 -- the last n bytes of s
