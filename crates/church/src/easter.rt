@@ -79,14 +79,15 @@ pub(crate) fn easter_of_year(named: NamedYear) -> DayAnswer
 {
     let style = named.style;
     let year = named.year;
-    if !has_easter(dates_by(style), year) {
+    let dates = dates_by(style);
+    if !has_easter(dates, year) {
         return DayAnswer::NoDay(Refusal::Year);
     }
-    let calendar = easter_by(style);
-    let answer = equinox(calendar, year);
+    let tables = easter_by(style);
+    let answer = equinox(tables, year);
     // No style has a year of its dates for which the calendar of its Easter has none.
     let DayAnswer::Day(equinox) = answer else {
         return answer;
     };
-    DayAnswer::Day(easter_after(equinox, limit_of_year(calendar, year)))
+    DayAnswer::Day(easter_after(equinox, limit_of_year(tables, year)))
 }

@@ -51,13 +51,13 @@ pub fn sheet_in_year(named: NamedYear) -> SheetAnswer
         DayAnswer::NoDay(refusal) => return SheetAnswer::NoSheet(refusal),
     };
     let dates = dates_by(style);
+    let tables = easter_by(style);
     let equinox = match equinox(dates, year) {
         DayAnswer::Day(day) => day,
         DayAnswer::NoDay(refusal) => return SheetAnswer::NoSheet(refusal),
     };
     let first = first_letter(dates, year, equinox);
     let second = second_letter(dates, year, equinox);
-    let tables = easter_by(style);
     let epact = epact_number(tables, year);
     let limit = limit_of_year(tables, year);
     let key = (easter - equinox) as u64;

@@ -28,13 +28,13 @@ has c = rw (c .dates-by .ensures) (is-easter (c .before .before) .0)
 returns-2 : tie.Need-returns-2
 returns-2 c =
     let equinox = c .before .before .before in
-    no-day _ _ (sym (c .before .refusal2 .given .1) ∙ rw (has (equinox .before)) at (equinox .equinox .ensures))
+    no-day _ _ (sym (c .before .refusal2 .given .1) ∙ rw (has (equinox .before .before)) at (equinox .equinox .ensures))
 
 is-equinox : (c : tie.After-day2)
-    → let dates = c .before .before .before in
+    → let dates = c .before .before .before .before in
     march (dates .dates-by .result) (dates .before .before .before .before .before .args .named .year) 21 ≡ c .day2 .given .0 .0
 is-equinox c =
-    let dates = c .before .before .before in
+    let dates = c .before .before .before .before in
     let year = dates .before .before .before .before .before .args .named .year in
     passed-day (hasEaster (dates .dates-by .result) year) _ _ _ (sym (c .before .before .equinox .ensures) ∙ c .day2 .given .1) .1
 
@@ -46,8 +46,8 @@ second-letter-requires c κs = sym (is-equinox (c .before .before))
 
 sub-key : tie.Need-sub-key
 sub-key c =
-    let equinox = c .before .before .before .before .before .before in
-    let dates = equinox .before .before .before in
+    let equinox = c .before .before .before .before .before in
+    let dates = equinox .before .before .before .before in
     let day = dates .before .before in
     let named = day .before .before .before .args .named in
     let e = is-easter day in
@@ -58,10 +58,10 @@ returns-3 : tie.Need-returns-3
 unfolding key
 returns-3 c =
     let limit = c .before .before .before in
-    let tables = limit .before .before in
-    let second = tables .before in
+    let second = limit .before .before in
     let equinox = second .before .before .before in
-    let dates = equinox .before .before .before in
+    let tables = equinox .before .before .before in
+    let dates = tables .before in
     let e = is-easter (dates .before .before) in
     rw (e .0)
     (record {
@@ -82,11 +82,11 @@ sheet-in-year-spec =
     (tie.spec
     (λ c κs. search needs) (λ c. search needs) (λ c. search needs)
     returns
-    (λ c κs. search needs) (λ c κs. search needs) (λ c. search needs) (λ c. search needs)
+    (λ c κs. search needs) (λ c κs. search needs) (λ c κs. search needs) (λ c. search needs) (λ c. search needs)
     returns-2
     first-letter-requires
     second-letter-requires
-    (λ c κs. search needs) (λ c κs. search needs) (λ c κs. search needs)
+    (λ c κs. search needs) (λ c κs. search needs)
     sub-key
     (λ c. search needs) (λ c κs. search needs) (λ c κs. search needs) (λ c κs. search needs)
     returns-3)
