@@ -1,10 +1,12 @@
 //! Days, dates, weekdays and distances by E. G. Richards' algorithm (Explanatory Supplement to the Astronomical
 //! Almanac, 3rd edition, section 15.11), which reckons from a year that begins in March and has no table of months.
 
+/// The styles in the order of their numbers; O has the dates of G and the Easter of J.
 #[derive(Clone, Copy, PartialEq)]
 pub enum Style {
     J,
     G,
+    O,
 }
 
 pub type Answer<T> = Result<T, u8>;
@@ -19,6 +21,7 @@ pub fn style(number: i128) -> Answer<Style> {
     match number {
         1 => Ok(Style::J),
         2 => Ok(Style::G),
+        3 => Ok(Style::O),
         _ => Err(1),
     }
 }
@@ -32,14 +35,14 @@ pub fn unchecked_day(style: Style, date: &Date) -> i128 {
     let j = e + (153 * f + 2).div_euclid(5);
     match style {
         Style::J => j,
-        Style::G => j - (3 * (g + 184).div_euclid(100)).div_euclid(4) + 38,
+        Style::G | Style::O => j - (3 * (g + 184).div_euclid(100)).div_euclid(4) + 38,
     }
 }
 
 fn unchecked_date(style: Style, day: i128) -> Date {
     let f = match style {
         Style::J => day + 1401,
-        Style::G => day + 1401 + (3 * (4 * day + 274277).div_euclid(146097)).div_euclid(4) - 38,
+        Style::G | Style::O => day + 1401 + (3 * (4 * day + 274277).div_euclid(146097)).div_euclid(4) - 38,
     };
     let e = 4 * f + 3;
     let h = 5 * e.rem_euclid(1461).div_euclid(4) + 2;
@@ -55,7 +58,7 @@ fn unchecked_date(style: Style, day: i128) -> Date {
 fn limits(style: Style) -> (i128, i128, i128) {
     match style {
         Style::J => (1, 1721424, 5373557),
-        Style::G => (1582, 2299161, 5373484),
+        Style::G | Style::O => (1582, 2299161, 5373484),
     }
 }
 

@@ -1,5 +1,5 @@
 //! The 48 feasts. A moving one is told as the church year does, by the week counted from Easter week and the weekday in it, with
-//! Easter by Meeus's algorithms; a fixed one by its date, with Richards' algorithm for the day. Matthias is counted back from 1 March,
+//! Easter as on the sheet; a fixed one by its date, with Richards' algorithm for the day. Matthias is counted back from 1 March,
 //! five days in every year, since the old leap day was put in before him, at 24 February (source document 003, "am 24. Februar als
 //! Schalttag", and 002, where a leap year's second letter serves "vom 24. Februar ab"). The first Sunday of Advent is the fourth
 //! before Christmas: the last Sunday before 25 December, and three weeks earlier.
@@ -103,7 +103,7 @@ pub fn day_of_feast(number: i128, feast: i128, year: i128) -> Answer<i128> {
     // A year is served where its Christmas has a day.
     day_of_date(number, &Date { year, month: 12, day: 25 })?;
     let moving = feast as usize <= MOVING.len();
-    if moving && style == Style::G && year == 1582 {
+    if moving && style != Style::J && year == 1582 {
         return Err(4);
     }
     in_span(style, unchecked_feast(style, feast, year))

@@ -11,7 +11,7 @@ use std::process::ExitCode;
 const LONGEST: usize = 120;
 
 /// The styles' letters, in the order of the styles' numbers.
-pub const STYLES: [&str; 2] = ["J", "G"];
+pub const STYLES: [&str; 3] = ["J", "G", "O"];
 
 /// The weekdays' words, Monday's first.
 pub const WEEKDAYS: [&str; 7] = ["mon", "tue", "wed", "thu", "fri", "sat", "sun"];

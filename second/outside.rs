@@ -3,6 +3,7 @@
 //! date must be a day number.
 
 use crate::days::{Date, Style, style, unchecked_day};
+use crate::lines::STYLES;
 use crate::tables::{Tables, Told, bare, date, epact, hundredths, march, number};
 use crate::years::{FIELDS, Line, parts};
 use std::io::BufRead;
@@ -79,8 +80,10 @@ fn expected(tables: &Tables, style: Style, year: i128) -> Told<Found> {
         circles(tables, &mut found)?;
         great_circle(tables, &mut found)?;
     }
-    sums(tables, &mut found)?;
-    equations(tables, &mut found)?;
+    if style != Style::O {
+        sums(tables, &mut found)?;
+        equations(tables, &mut found)?;
+    }
     Ok(found)
 }
 
@@ -142,9 +145,10 @@ fn taken_apart(tables: &Tables, sum: i128, found: &mut Found) -> Told<()> {
     if let Some(row) = tables.keyed("hundreds", hundreds * 100)? {
         found.letters(&row[1]);
     }
-    match found.style {
-        Style::J => moon_in_j(tables, tens, found)?,
-        Style::G => moon_in_g(tables, tens, found)?,
+    if found.style == Style::J {
+        moon_in_j(tables, tens, found)?;
+    } else {
+        moon_in_g(tables, tens, found)?;
     }
     key_and_feasts(tables, hundreds, tens, found)
 }
@@ -183,7 +187,7 @@ fn moon_in_g(tables: &Tables, tens: i128, found: &mut Found) -> Told<()> {
 
 /// Key and feasts are found by hundreds and tens, and hundreds from 15 on are a leap year's.
 fn key_and_feasts(tables: &Tables, hundreds: i128, tens: i128, found: &mut Found) -> Told<()> {
-    let letter = if found.style == Style::J { 'J' } else { 'G' };
+    let letter = STYLES[found.style as usize];
     let row = tables.row("feasts", |row| {
         let last = hundredths(&row[3])? + if row[3].contains('.') { 0 } else { 99 };
         Ok(row[0].contains(letter)
@@ -220,8 +224,8 @@ fn equations(tables: &Tables, found: &mut Found) -> Told<()> {
 /// How many fields agree, or the first that does not.
 fn agreeing(tables: &Tables, line: &Line) -> Told<usize> {
     let style = style(line.style).map_err(|_| "no such style".to_string())?;
-    // The sheet of G 1582 is refused.
-    if style == Style::G && line.year == 1582 {
+    // The sheet of 1582 is refused in G and in O.
+    if style != Style::J && line.year == 1582 {
         return Ok(0);
     }
     if line.sheet.len() != FIELDS.len() || line.feasts.len() != 48 {

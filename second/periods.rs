@@ -2,6 +2,7 @@
 
 use crate::days::{Date, Style, unchecked_day};
 use crate::feasts::{COUNT, unchecked_feast};
+use crate::lines::STYLES;
 use crate::sheets::sheet;
 use std::process::ExitCode;
 
@@ -70,7 +71,7 @@ impl Run {
     fn print(&self) {
         let all = self.years().filter(|&year| self.returns(year)).count();
         let keys = self.years().filter(|&year| self.key_returns(year)).count();
-        let letter = if self.style == Style::J { 'J' } else { 'G' };
+        let letter = STYLES[self.style as usize];
         let Run { later, first, count, step, .. } = *self;
         let (before, after) = (self.key(first), self.key(first + later));
         println!("{letter} {later}: {count} years from {first} on by {step}: all {all}, key {keys}; first {before}, then {after}");

@@ -1,7 +1,9 @@
 //! The year sheet, with nothing of the library's column or of its sum for the epact. Easter is found by the two algorithms
-//! of Meeus (Astronomical Algorithms, 2nd edition, chapter 8; the one for G is Butcher's of 1876). The limit is 21 March and their
-//! days to the moon, in G with Oudin's correction of 1940 (as printed in the Explanatory Supplement to the Astronomical Almanac).
-//! The J epact is the moon's age on 22 March, Dionysius's epact, and eleven more. The G epacts are those of Lilius's cycle as
+//! of Meeus (Astronomical Algorithms, 2nd edition, chapter 8; the one for G is Butcher's of 1876), and in O by Gauss's rule with 15
+//! and 6 for the old calendar (Berechnung des Osterfestes, Monatliche Correspondenz, August 1800; proved in source document 001,
+//! section XII), to which the days are added by which G is ahead. The limit is 21 March and Meeus's days to the moon, in G with
+//! Oudin's correction of 1940 (as printed in the Explanatory Supplement to the Astronomical Almanac), and in O that of J. The J epact
+//! is the moon's age on 22 March, Dionysius's epact, and eleven more, and O has it too. The G epacts are those of Lilius's cycle as
 //! Clavius tells it (Romani calendarii a Gregorio XIII restituti explicatio, 1603): the epact of golden number 1 was I in 1582, and
 //! the century years since then moved it by the sun's and the moon's equation, as those before would have. Letters are read off the
 //! Sundays.
@@ -57,7 +59,7 @@ fn golden(year: i128) -> i128 {
 fn moon_days(style: Style, year: i128) -> i128 {
     let a = year % 19;
     match style {
-        Style::J => (19 * a + 15) % 30,
+        Style::J | Style::O => (19 * a + 15) % 30,
         Style::G => {
             let b = year / 100;
             let f = (b + 8) / 25;
@@ -70,24 +72,38 @@ fn moon_days(style: Style, year: i128) -> i128 {
 fn limit(style: Style, year: i128) -> i128 {
     let h = moon_days(style, year);
     match style {
-        Style::J => 21 + h,
+        Style::J | Style::O => 21 + h,
         Style::G => 21 + h - h / 28 * (1 - h / 28 * (29 / (h + 1)) * ((21 - year % 19) / 11)),
     }
+}
+
+/// Easter in J as a day of March, by Gauss's rule.
+fn old_easter(year: i128) -> i128 {
+    let (a, b, c) = (year % 19, year % 4, year % 7);
+    let d = (19 * a + 15) % 30;
+    let e = (2 * b + 4 * c + 6 * d + 6) % 7;
+    22 + d + e
+}
+
+/// By how many days G is ahead of J from 1 March on.
+fn ahead(year: i128) -> i128 {
+    year / 100 - year / 400 - 2
 }
 
 /// Easter's day number in any year from 1 on.
 pub fn easter(style: Style, year: i128) -> i128 {
     let h = moon_days(style, year);
-    let sum = match style {
-        Style::J => h + (2 * (year % 4) + 4 * (year % 7) - h + 34).rem_euclid(7) + 114,
+    let by_sum = |sum: i128| day(style, year, sum / 31, sum % 31 + 1);
+    match style {
+        Style::J => by_sum(h + (2 * (year % 4) + 4 * (year % 7) - h + 34).rem_euclid(7) + 114),
         Style::G => {
             let (e, i, k) = (year / 100 % 4, year % 100 / 4, year % 4);
             let l = (32 + 2 * e + 2 * i - h - k).rem_euclid(7);
             let m = (year % 19 + 11 * h + 22 * l) / 451;
-            h + l - 7 * m + 114
+            by_sum(h + l - 7 * m + 114)
         }
-    };
-    day(style, year, sum / 31, sum % 31 + 1)
+        Style::O => day(style, year, 3, old_easter(year) + ahead(year)),
+    }
 }
 
 /// The last century whose epacts are told.
@@ -126,7 +142,7 @@ fn cycle(year: i128) -> Vec<i128> {
 /// The epact, and whether it is the Arabic 25, which serves where the cycle has XXIV too.
 fn epact(style: Style, year: i128) -> (i128, bool) {
     match style {
-        Style::J => {
+        Style::J | Style::O => {
             let age_on_22_march = 14 - (limit(style, year) - 22);
             ((age_on_22_march + 11).rem_euclid(30), false)
         }

@@ -30,10 +30,10 @@ pub fn parts(line: &str) -> Option<Line<'_>> {
     }
 }
 
-/// The style and year of each call; G 1582 has feasts and no sheet.
+/// The style and year of each call; 1582 has feasts and no sheet in G and in O.
 fn calls() -> impl Iterator<Item = (i128, i128)> {
     let years = |style, first| (first..=9999).map(move |year| (style, year));
-    years(1, 1).chain(years(2, 1582))
+    years(1, 1).chain(years(2, 1582)).chain(years(3, 1582))
 }
 
 fn text(style: i128, year: i128) -> String {
