@@ -9,11 +9,12 @@ use std::process::ExitCode;
 
 pub type Line = Vec<u8>;
 
-/// Years at the bounds of the styles, and years with an Easter that is easily missed.
-const YEARS: [i32; 16] = [1, 4, 1225, 1581, 1582, 1583, 1587, 1810, 1818, 1900, 1943, 1954, 1981, 2000, 2025, 9999];
+/// Years at the bounds of the styles, years with an Easter that is easily missed, and those of O's least and greatest key.
+const YEARS: [i32; 19] =
+    [1, 4, 1225, 1581, 1582, 1583, 1587, 1668, 1810, 1818, 1900, 1943, 1954, 1981, 2000, 2024, 2025, 9963, 9999];
 
 /// Accepted lines, from which other kinds make bad ones; they hold every wrapper word.
-pub const GOOD: [&str; 14] = [
+pub const GOOD: [&str; 16] = [
     "easter 1225 J",
     "29.2 1900 J",
     "1.1 1 J",
@@ -28,14 +29,22 @@ pub const GOOD: [&str; 14] = [
     "sun before octave of eve of 7.4 25 J",
     "tue on or after martin 1587 J",
     "sun on or before 1.1 2025 G",
+    "easter 2024 O",
+    "mon before 29.2 2000 O",
 ];
 
 /// The first and last days of the spans: the day at the end, the way into the span, and what follows the day.
-const ENDS: [(i32, i32, &str); 4] =
-    [(1, 1, ".1 1 J"), (31, -1, ".12 9999 J"), (15, 1, ".10 1582 G"), (31, -1, ".12 9999 G")];
+const ENDS: [(i32, i32, &str); 6] = [
+    (1, 1, ".1 1 J"),
+    (31, -1, ".12 9999 J"),
+    (15, 1, ".10 1582 G"),
+    (31, -1, ".12 9999 G"),
+    (15, 1, ".10 1582 O"),
+    (31, -1, ".12 9999 O"),
+];
 
 /// Every kind of line, in the order of printing.
-const KINDS: [fn(&mut Corpus); 48] = [
+const KINDS: [fn(&mut Corpus); 49] = [
     good,
     feasts,
     wrapped_feasts,
@@ -59,6 +68,7 @@ const KINDS: [fn(&mut Corpus); 48] = [
     recased,
     foreign_bytes,
     bytes_as_style,
+    letters_like_styles,
     bytes_as_line,
     line_ends,
     edited,
@@ -127,7 +137,7 @@ fn good(corpus: &mut Corpus) {
     GOOD.iter().for_each(|&line| corpus.add(line));
 }
 
-/// Every feast in several years of both styles.
+/// Every feast in several years of every style.
 fn feasts(corpus: &mut Corpus) {
     for year in YEARS {
         for style in STYLES {
@@ -140,7 +150,7 @@ fn feasts(corpus: &mut Corpus) {
 fn wrapped_feasts(corpus: &mut Corpus) {
     for wrapper in wrappers() {
         for feast in words() {
-            for year in ["1225 J", "1582 G", "2025 G"] {
+            for year in ["1225 J", "1582 G", "2025 G", "2024 O"] {
                 corpus.add(format!("{wrapper} {feast} {year}"));
             }
         }
@@ -151,7 +161,7 @@ fn wrapped_feasts(corpus: &mut Corpus) {
 fn wrapped_dates(corpus: &mut Corpus) {
     for wrapper in wrappers() {
         for date in ["1.1", "28.2", "29.2", "31.2", "1.3", "30.6", "31.12"] {
-            for year in ["1900 J", "1900 G", "2000 G", "1582 G"] {
+            for year in ["1900 J", "1900 G", "2000 G", "1582 G", "1900 O", "1582 O"] {
                 corpus.add(format!("{wrapper} {date} {year}"));
             }
         }
@@ -176,7 +186,8 @@ fn span_ends(corpus: &mut Corpus) {
             all_wrappers().iter().for_each(|wrapper| corpus.add(format!("{wrapper} {day}{rest}")));
         }
     }
-    for feast in ["circumcision 1 J", "epiphany 1 J", "christmas 9999 J", "christmas 9999 G", "luke 1582 G"] {
+    let feasts = "circumcision 1 J,epiphany 1 J,christmas 9999 J,christmas 9999 G,luke 1582 G,christmas 9999 O,luke 1582 O";
+    for feast in feasts.split(',') {
         all_wrappers().iter().for_each(|wrapper| corpus.add(format!("{wrapper} {feast}")));
     }
 }
@@ -208,6 +219,7 @@ fn pairs(corpus: &mut Corpus) {
         for inner in wrappers() {
             corpus.add(format!("{outer} {inner} ascension 1225 J"));
             corpus.add(format!("{outer} {inner} 29.2 2000 G"));
+            corpus.add(format!("{outer} {inner} ascension 2024 O"));
         }
     }
 }
@@ -215,7 +227,7 @@ fn pairs(corpus: &mut Corpus) {
 /// Each wrapper said over and over, until the line is too long.
 fn repeated(corpus: &mut Corpus) {
     for wrapper in all_wrappers() {
-        for rest in ["easter 2025 G", "24.2 1900 J"] {
+        for rest in ["easter 2025 G", "24.2 1900 J", "easter 2024 O"] {
             let most = 130 / wrapper.len();
             (1..=most).for_each(|count| corpus.add(format!("{}{rest}", format!("{wrapper} ").repeat(count))));
         }
@@ -237,7 +249,9 @@ fn lengths_about_the_longest(corpus: &mut Corpus) {
     for anchor in words().chain(["1.1", "28.2", "31.12"]) {
         for length in 118..=122 {
             let rest = length - anchor.len() - " 1225 J".len();
-            chains(rest).take(1).for_each(|chain| corpus.add(format!("{chain}{anchor} 2025 G")));
+            for year in ["2025 G", "2024 O"] {
+                chains(rest).take(1).for_each(|chain| corpus.add(format!("{chain}{anchor} {year}")));
+            }
             chains(rest).last().into_iter().for_each(|chain| corpus.add(format!("{chain}{anchor} 1225 J")));
         }
     }
@@ -246,12 +260,13 @@ fn lengths_about_the_longest(corpus: &mut Corpus) {
 /// Lines of 122 to 400 bytes that the grammar produces, and single words of 110 to 130 bytes.
 fn too_long(corpus: &mut Corpus) {
     for length in 122..=400 {
-        chains(length - "easter 2025 G".len()).take(1).for_each(|chain| corpus.add(chain + "easter 2025 G"));
+        let end = ["easter 2025 G", "easter 2024 O"][length % 2];
+        chains(length - end.len()).take(1).for_each(|chain| corpus.add(chain + end));
     }
     (110..=130).for_each(|length| corpus.add("easter".repeat(30)[..length].to_string()));
 }
 
-/// Every day 1 to 31 of every month 1 to 12, in leap years and common ones, and in the year with the first day of G.
+/// Every day 1 to 31 of every month 1 to 12, in leap years and common ones, and in the year with the first day of G and O.
 fn dates(corpus: &mut Corpus) {
     for year in ["1582", "1900", "2000", "2001"] {
         for style in STYLES {
@@ -262,10 +277,10 @@ fn dates(corpus: &mut Corpus) {
     }
 }
 
-/// Days and months that are too small, too large, or written otherwise.
+/// Days and months that are too small, too large, or written otherwise, such as with an O for a 0.
 fn date_forms(corpus: &mut Corpus) {
-    let days = "0 00 01 1 001 9 09 29 31 031 32 40 99 100 257 18446744073709551617 +1 -1 x 2/ 2:";
-    let months = "0 00 01 1 2 02 001 12 012 13 20 99 112 257 18446744073709551617 +1 -1 i / 1:";
+    let days = "0 00 01 1 001 9 09 29 31 031 32 40 99 100 257 18446744073709551617 +1 -1 x 2/ 2: 1O";
+    let months = "0 00 01 1 2 02 001 12 012 13 20 99 112 257 18446744073709551617 +1 -1 i / 1: 1O";
     for day in days.split(' ').chain([""]) {
         for month in months.split(' ').chain([""]) {
             corpus.add(format!("{day}.{month} 2000 G"));
@@ -280,6 +295,7 @@ fn date_points(corpus: &mut Corpus) {
     {
         corpus.add(format!("2{point}2 2000 G"));
         corpus.add(format!("eve of 24{point}12 1225 J"));
+        corpus.add(format!("octave of 7{point}1 2024 O"));
     }
     for date in [".", ".2.2", "2.2.", "2.2.2000", "2.feb", "ii.ii", "easter.2", "2.easter", "easter.", ".easter"] {
         corpus.add(format!("{date} 2000 G"));
@@ -291,7 +307,7 @@ fn year_forms(corpus: &mut Corpus) {
     let bounds = "0 00 000 0000 00000 1 9 01 001 0001 00001 10 99 010 100 999 1000 0999 1500 1581 1582 1583 01582 \
         9998 9999 10000 10001 15820 99999 100000 999999";
     let wraps = "67561 4294969321 18446744073709553641 340282366920938463463374607431768213481";
-    let others = "+1 -1 +2025 -2025 2025. .2025 2.025 2,025 1e3 0x7e9 2025a a2025 MMXXV i 202/ 202: /025 :025";
+    let others = "+1 -1 +2025 -2025 2025. .2025 2.025 2,025 1e3 0x7e9 2025a a2025 MMXXV i 202/ 202: /025 :025 2O25 O025";
     let words = [bounds, wraps, others].into_iter().flat_map(|list| list.split(' '));
     for year in words.chain(["", " ", "20 25", "\u{662}\u{660}"]) {
         for phrase in ["easter", "michael", "christmas", "eve of 1.1", "15.10", "octave of 31.12"] {
@@ -305,13 +321,13 @@ fn several_refusals(corpus: &mut Corpus) {
     for wrapper in ["", "eve of ", "octave of morrow of ", "eve off "] {
         for anchor in ["29.2", "31.2", "14.10", "1.1", "32.1", "easter", "epiphany"] {
             for year in ["0", "1", "1000", "1581", "1582", "10000"] {
-                ["J", "G", "g"].iter().for_each(|style| corpus.add(format!("{wrapper}{anchor} {year} {style}")));
+                ["J", "G", "O", "g", "o"].iter().for_each(|style| corpus.add(format!("{wrapper}{anchor} {year} {style}")));
             }
         }
     }
 }
 
-/// 5 to 14 October 1582 behind every wrapper without "on or", in G before the span even where the wrapper ends in it.
+/// 5 to 14 October 1582 behind every wrapper without "on or", in G and O before the span even where the wrapper ends in it.
 fn lost_days(corpus: &mut Corpus) {
     for wrapper in wrappers() {
         for style in STYLES {
@@ -382,8 +398,18 @@ fn bytes() -> impl Iterator<Item = u8> {
 
 /// Every byte in the style letter's place.
 fn bytes_as_style(corpus: &mut Corpus) {
-    for before in ["easter 1225 ", "1.1 1600 "] {
+    for before in ["easter 1225 ", "1.1 1600 ", "easter 2024 "] {
         bytes().for_each(|byte| corpus.add([before.as_bytes(), &[byte]].concat()));
+    }
+}
+
+/// In the style letter's place the letters beside those of the styles, others that look like O, and several letters.
+fn letters_like_styles(corpus: &mut Corpus) {
+    let letters = "F H I K M N P Q C D j g o 0 3 JG GO OJ OO O. (O) \u{41e} \u{39f} \u{d6} \u{d8} \u{ff2f}";
+    for letter in letters.split(' ') {
+        for phrase in ["easter 2024", "15.10 1582", "29.2 1900", "eve of advent 9999"] {
+            corpus.add(format!("{phrase} {letter}"));
+        }
     }
 }
 
@@ -457,10 +483,10 @@ fn wrong_words(corpus: &mut Corpus) {
 /// Lines whose year and style are missing, doubled, exchanged or joined.
 fn wrong_order(corpus: &mut Corpus) {
     for anchor in ["easter", "24.12", "eve of martin"] {
-        for (year, style) in [("1225", "J"), ("2025", "G")] {
+        for (year, style) in [("1225", "J"), ("2025", "G"), ("2024", "O")] {
             for end in [
                 "Y", "S", "S Y", "Y S S", "Y Y S", "S Y S", "Y S Y", "YS", "Y SS", "Y S.", "Y (S)", "in Y S", "Y, S",
-                "",
+                "Y SO", "Y OS", "Y S O", "Y O S", "",
             ] {
                 let end = end.replace('Y', year).replace('S', style);
                 corpus.add(format!("{anchor} {end}"));
@@ -492,13 +518,17 @@ fn phrase_words_in_every_order(corpus: &mut Corpus) {
 
 /// Words of every kind in every order, up to three.
 fn words_in_every_order(corpus: &mut Corpus) {
-    let list = ["eve", "of", "sun", "before", "judica", "1583", "G"];
+    let list = ["eve", "of", "sun", "before", "judica", "1583", "G", "O"];
     (1..=3).flat_map(|count| sequences(&list, count)).for_each(|line| corpus.add(line));
 }
 
 /// All words of a good line in every order.
 fn good_words_in_every_order(corpus: &mut Corpus) {
-    for list in [["sun", "before", "judica", "1583", "G"], ["eve", "of", "7.4", "304", "J"]] {
+    for list in [
+        ["sun", "before", "judica", "1583", "G"],
+        ["eve", "of", "7.4", "304", "J"],
+        ["tue", "after", "9.8", "2024", "O"],
+    ] {
         for line in sequences(&list, list.len()) {
             if list.iter().all(|word| line.split(' ').any(|other| other == *word)) {
                 corpus.add(line);
@@ -558,7 +588,7 @@ pub fn random_line(numbers: &mut Numbers, wrappers: &[String]) -> String {
 pub fn random_edit(mut line: Line, numbers: &mut Numbers) -> Line {
     let place = numbers.below(line.len() - 1);
     let byte = match numbers.below(2) {
-        0 => numbers.one_of(b" .0123456789abcdefghijklmnopqrstuvwxyzGJ"),
+        0 => numbers.one_of(b" .0123456789abcdefghijklmnopqrstuvwxyzGJO"),
         _ => numbers.one_of(&bytes().collect::<Vec<_>>()),
     };
     match numbers.below(4) {
@@ -586,7 +616,7 @@ fn random(corpus: &mut Corpus) {
     random_lines(corpus, Numbers(1582), 4000, &wrappers());
 }
 
-/// Matthias and the dates about him, and wrappers before him and before 24.2, in years that are leap in both styles, in one and in none.
+/// Matthias and the dates about him, and wrappers before him and before 24.2, in years that are leap by both rules, by one and by none.
 fn matthias(corpus: &mut Corpus) {
     for year in [3, 4, 100, 1500, 1582, 1583, 1584, 1600, 1700, 1900, 2000, 2100, 9996, 9999] {
         for style in STYLES {
@@ -600,7 +630,7 @@ fn matthias(corpus: &mut Corpus) {
     }
 }
 
-/// Every wrapper with "on or" before Martin, in years in which he has each weekday in either style.
+/// Every wrapper with "on or" before Martin, in years in which he has each weekday in every style.
 fn on_or_from_fixed_feasts(corpus: &mut Corpus) {
     for wrapper in on_or_wrappers() {
         for year in [1583, 1584, 1585, 1586, 1587, 1589, 1593] {
@@ -614,7 +644,7 @@ fn on_or_from_moving_feasts(corpus: &mut Corpus) {
     let feasts = "easter advent palms quasimodo pentecost trinity septuagesima ashes cena parasceve ascension corpus";
     for (turn, wrapper) in on_or_wrappers().enumerate() {
         for (place, feast) in feasts.split(' ').enumerate() {
-            corpus.add(format!("{wrapper} {feast} {}", ["2025 G", "1225 J"][(turn / 2 + place) % 2]));
+            corpus.add(format!("{wrapper} {feast} {}", ["2025 G", "1225 J", "2024 O"][(turn / 2 + place) % 3]));
         }
     }
 }
@@ -623,19 +653,20 @@ fn on_or_from_moving_feasts(corpus: &mut Corpus) {
 fn on_or_from_dates(corpus: &mut Corpus) {
     for wrapper in on_or_wrappers() {
         for anchor in ["1.1", "24.2", "matthias", "29.2", "1.3", "31.12"] {
-            ["1900 J", "1900 G"].iter().for_each(|year| corpus.add(format!("{wrapper} {anchor} {year}")));
+            ["1900 J", "1900 G", "1900 O"].iter().for_each(|year| corpus.add(format!("{wrapper} {anchor} {year}")));
         }
     }
 }
 
-/// Every pair of wrappers of which one or both have "on or", on a feast and on a date by turns.
+/// Every pair of wrappers of which one or both have "on or", on feasts and on a date by turns.
 fn on_or_in_pairs(corpus: &mut Corpus) {
     let wrappers = all_wrappers();
+    let anchors = ["ascension 1225 J", "29.2 2000 G", "trinity 2024 O"];
     for (turn, outer) in wrappers.iter().enumerate() {
         for (place, inner) in wrappers.iter().enumerate() {
             let pair = format!("{outer} {inner}");
             if pair.contains(" on or ") {
-                corpus.add(format!("{pair} {}", ["ascension 1225 J", "29.2 2000 G"][(turn + place) % 2]));
+                corpus.add(format!("{pair} {}", anchors[(turn + place) % 3]));
             }
         }
     }
@@ -655,10 +686,12 @@ fn on_or_out_of_the_span(corpus: &mut Corpus) {
     }
 }
 
-/// Days before the span of G behind every wrapper with "on or", even where the wrapper ends in the span.
+/// Days before the span of G and O behind every wrapper with "on or", even where the wrapper ends in the span.
 fn on_or_from_lost_days(corpus: &mut Corpus) {
     for wrapper in on_or_wrappers() {
-        [8, 14].iter().for_each(|day| corpus.add(format!("{wrapper} {day}.10 1582 G")));
+        for style in ["G", "O"] {
+            [8, 14].iter().for_each(|day| corpus.add(format!("{wrapper} {day}.10 1582 {style}")));
+        }
     }
 }
 
@@ -668,7 +701,9 @@ fn on_or_about_the_longest(corpus: &mut Corpus) {
         for (count, length) in (1..=5).flat_map(|count| (118..=122).map(move |length| (count, length))) {
             let repeated = wrapper.repeat(count);
             let rest = length - repeated.len() - anchor.len() - " 2025 G".len();
-            chains(rest).take(1).for_each(|chain| corpus.add(format!("{repeated}{chain}{anchor} 2025 G")));
+            for year in ["2025 G", "2024 O"] {
+                chains(rest).take(1).for_each(|chain| corpus.add(format!("{repeated}{chain}{anchor} {year}")));
+            }
             chains(rest).last().into_iter().for_each(|chain| corpus.add(format!("{chain}{repeated}{anchor} 1225 J")));
         }
     }
