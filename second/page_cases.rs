@@ -44,8 +44,16 @@ const MORE: [usize; 9] = [0, 1, 2, 3, 4, 5, 6, 7, 40];
 const DATED: &str = "easter 1225 J";
 
 /// Ends of lines that have 118 to 123 bytes behind a chain of wrappers of 107.
-const LONG: [&str; 6] =
-    ["easter 12 J", "easter 122 J", "easter 1225 J", "pentecost 12 J", "pentecost 122 J", "pentecost 1225 J"];
+const LONG: [&str; 8] = [
+    "easter 12 J",
+    "easter 122 J",
+    "easter 1225 J",
+    "pentecost 12 J",
+    "pentecost 122 J",
+    "pentecost 1225 J",
+    "easter 2024 O",
+    "trinity 2024 O",
+];
 
 /// The bytes of a place for each line, and none for a refused page.
 fn needed(page: &[u8]) -> usize {
@@ -113,9 +121,9 @@ fn blank_lines(pages: &mut Stored) {
     }
 }
 
-/// One to twenty-four lines, with enough places and with too few.
+/// One line to all that are good and refused in turn, with enough places and with too few.
 fn line_counts(pages: &mut Stored) {
-    (1..=24).for_each(|count| open_and_ended(pages, page_of(count).as_bytes()));
+    (1..=mixed().len()).for_each(|count| open_and_ended(pages, page_of(count).as_bytes()));
 }
 
 /// No line to seven with every number of bytes about places, and with far more than are filled.
@@ -129,7 +137,7 @@ fn sizes(pages: &mut Stored) {
 /// Fifty to two thousand lines of several kinds, with exactly enough places, a place and a byte too few, and none.
 fn many_lines(pages: &mut Stored) {
     for count in [50, 100, 255, 256, 257, 499, 500, 501, 999, 1000, 1001, 1024, 1999, 2000] {
-        for line in ["", "x", "\r", "1.1 1 J", DATED, "29.2 1900 G", "31.12 9999 G"] {
+        for line in ["", "x", "\r", "1.1 1 J", DATED, "29.2 1900 G", "31.12 9999 G", "easter 2024 O"] {
             let ended = format!("{line}\n");
             let pieces: [Repeated; 2] = [(count - 1, ended.as_bytes()), (1, line.as_bytes())];
             pages.enough_pieces(&pieces);
@@ -239,7 +247,8 @@ fn good_stored_lines(pages: &mut Stored) {
 
 /// Pages about the longest of lines over and over, with letters before or behind what goes in.
 fn lengths_about_the_longest(pages: &mut Stored) {
-    for text in ["a", "\n", "\r\n", "a\n", "1.1 1 J\n", "easter 1225 J\n", "29.2 1900 G\n\n", "\n\u{e9}", "x\0\n"] {
+    let texts = "a,\n,\r\n,a\n,1.1 1 J\n,easter 1225 J\n,easter 2024 O\n,29.2 1900 G\n\n,\n\u{e9},x\0\n";
+    for text in texts.split(',') {
         for length in lengths_about(LONGEST) {
             let [rest, repeated] = filled(length, text);
             pages.enough_pieces(&[rest, repeated]);

@@ -55,7 +55,7 @@ const PROSE: [&str; 8] = [
 ];
 
 /// Texts for which no day is told, of every refusal.
-pub const REFUSED: [&str; 14] = [
+pub const REFUSED: [&str; 19] = [
     "",
     "octave of octave of octave of octave of octave of octave of octave of octave of octave of octave of octave of easter 12 J",
     "no such line",
@@ -70,6 +70,11 @@ pub const REFUSED: [&str; 14] = [
     "31.4 1225 J",
     "eve of 1.1 1 J",
     "14.10 1582 G",
+    "easter 2024 o",
+    "easter 1582 O",
+    "29.2 1900 O",
+    "14.10 1582 O",
+    "morrow of 31.12 9999 O",
 ];
 
 /// A mark with a day.
@@ -190,6 +195,9 @@ fn lengths_of_marks(transcripts: &mut Stored) {
     for year in [1, 12, 123, 1234] {
         let end = format!("easter {year} J]]");
         transcripts.enough_pieces(&[(1, b"[["), (11, b"octave of "), (1, end.as_bytes())]);
+    }
+    for end in [b"easter 2024 O]]".as_slice(), b"trinity 2024 O]]"] {
+        transcripts.enough_pieces(&[(1, b"[[eve of "), (10, b"octave of "), (1, end)]);
     }
 }
 
@@ -359,7 +367,7 @@ fn one_long_mark(transcripts: &mut Stored) {
 fn marks_at_the_ends(transcripts: &mut Stored) {
     for text in ["a", "[[", "\u{e9}", "\u{20ac}", "\u{1f4dc}"] {
         for length in lengths_about(LONGEST) {
-            for end in [DATED, "[[", "]]", "]"] {
+            for end in [DATED, "[[easter 2024 O]]", "[[", "]]", "]"] {
                 let [rest, repeated] = filled(length - end.len(), text);
                 transcripts.enough_pieces(&[rest, repeated, (1, end.as_bytes())]);
                 transcripts.enough_pieces(&[(1, end.as_bytes()), rest, repeated]);
