@@ -46,10 +46,18 @@ impl Found {
         self.tell(SECOND_LETTER, &letters[letters.len() - 1..]);
     }
 
-    /// Easter, a day of March, is the key, the sheet's day and feast 13.
+    /// The day number of a date that a table has; the feasts of O have there the dates of J.
+    fn day(&self, date: &Date) -> i128 {
+        let style = if self.style == Style::O { Style::J } else { self.style };
+        unchecked_day(style, date)
+    }
+
+    /// Easter, a day of March, is the key, which counts from 21 March of the style, the sheet's day and feast 13.
     fn easter(&mut self, march: i128) {
-        let day = unchecked_day(self.style, &Date { year: self.year, month: 3, day: march });
-        self.tell(KEY, march - 21);
+        let in_march = |day: i128| Date { year: self.year, month: 3, day };
+        let day = self.day(&in_march(march));
+        let key = day - unchecked_day(self.style, &in_march(21));
+        self.tell(KEY, key);
         self.tell(EASTER, day);
         self.tell(FEASTS + 13, day);
     }
@@ -58,7 +66,7 @@ impl Found {
     fn feasts(&mut self, leap: bool, feasts: &[usize], words: &[String]) -> Told<()> {
         for (feast, word) in feasts.iter().zip(words).filter(|(_, word)| *word != "-") {
             let later = i128::from(leap && word.starts_with('('));
-            let day = unchecked_day(self.style, &date(self.year, bare(word))?) + later;
+            let day = self.day(&date(self.year, bare(word))?) + later;
             self.tell(FEASTS + feast, day);
             if *feast == 13 {
                 self.tell(EASTER, day);
@@ -78,6 +86,8 @@ fn expected(tables: &Tables, style: Style, year: i128) -> Told<Found> {
     let mut found = Found { style, year, fields: vec![] };
     if style == Style::J {
         circles(tables, &mut found)?;
+    }
+    if style != Style::G {
         great_circle(tables, &mut found)?;
     }
     if style != Style::O {
@@ -105,11 +115,11 @@ fn circles(tables: &Tables, found: &mut Found) -> Told<()> {
     Ok(())
 }
 
-/// Document 004: a row for each year of the circle, and one for each of its Easter dates.
+/// Document 004: a row for each year of the circle, and one for each of its Easter dates; the letters are those of J alone.
 fn great_circle(tables: &Tables, found: &mut Found) -> Told<()> {
     let year = found.year;
     if let Some(row) = tables.row("circle", |row| Ok((number(&row[0])? - year) % 532 == 0))? {
-        if row[1] != "-" {
+        if found.style == Style::J && row[1] != "-" {
             found.letters(&row[1]);
         }
         found.tell(GOLDEN, rest(number(&row[2])? - 17 + 1, 19));
