@@ -15,8 +15,11 @@ const DATES: usize = 300_000;
 const PART: usize = 1000;
 const ROUNDS: usize = 61;
 
+/// The style with Julian dates; all others have the Gregorian ones.
 const JULIAN: u64 = 1;
-const GREGORIAN: u64 = 2;
+
+/// The styles' numbers go from 1 to this.
+const LAST_STYLE: u64 = 3;
 
 /// The refusals of a date.
 const NAME: u32 = 1;
@@ -24,14 +27,14 @@ const YEAR: u32 = 4;
 const DATE: u32 = 5;
 const SPAN: u32 = 6;
 
-/// The first day of each style's span; no date of a served year is behind the last.
+/// The first day of the span of Julian dates and of Gregorian ones; no date of a served year is behind the last.
 const FIRST_JULIAN: u32 = 1721424;
 const FIRST_GREGORIAN: u32 = 2299161;
 
 /// Days of each month in a common year, by its number.
 static LENGTHS: [u64; 13] = [0, 31, 28, 31, 30, 31, 30, 31, 31, 30, 31, 30, 31];
 
-/// Years about the bounds of either style, and about years that one style has as leap years.
+/// Years about the bounds of the styles, and about years that only some have as leap years.
 const BOUNDING: [u64; 18] = [0, 1, 2, 3, 4, 99, 100, 400, 1500, 1581, 1582, 1583, 1600, 1700, 9996, 9999, 10000, 10001];
 
 unsafe extern "C" {
@@ -46,8 +49,8 @@ const WAYS: [(&str, Day); 2] = [("qv_day", qv_day), ("plain", plain)];
 /// begin with March, so that January and February are the months 13 and 14 of the year before. Nothing branches by the style, which no
 /// predictor foresees.
 extern "C" fn plain(style: u64, year: u64, month: u64, day: u64) -> u32 {
-    let gregorian = style == GREGORIAN;
-    if !gregorian && style != JULIAN {
+    let gregorian = style != JULIAN;
+    if style.wrapping_sub(1) >= LAST_STYLE {
         return NAME;
     }
     if year < if gregorian { 1582 } else { 1 } || year > 9999 {
@@ -88,7 +91,7 @@ fn compared(random: &mut Random) -> Result<usize, String> {
     let mut count = 0;
     let years: Vec<u64> = BOUNDING.into_iter().chain((0..300).map(|_| random.among(1, 9999))).collect();
     for year in years {
-        for style in 0..=3 {
+        for style in 0..=4 {
             for month in 0..=13 {
                 for day in 0..=32 {
                     agreed([style, year, month, day])?;
@@ -98,7 +101,7 @@ fn compared(random: &mut Random) -> Result<usize, String> {
         }
     }
     for _ in 0..1_000_000 {
-        let call = [random.among(0, 3), random.among(0, 10001), random.among(0, 13), random.among(0, 32)];
+        let call = [random.among(0, 4), random.among(0, 10001), random.among(0, 13), random.among(0, 32)];
         agreed(call.map(|number| perhaps_huge(number, random)))?;
         count += 1;
     }
@@ -138,7 +141,7 @@ fn run() -> Result<(), String> {
     println!("{} calls are answered alike", compared(&mut random)?);
     println!("nanoseconds a call, the least and the median of {ROUNDS} rounds on each of {} parts of {PART} dates", DATES / PART);
     print_heading("dates", &WAYS.map(|(name, _)| name));
-    for (name, styles) in [("J and G by chance", &[1, 2][..]), ("J alone", &[1]), ("G alone", &[2])] {
+    for (name, styles) in [("J, G and O by chance", &[1, 2, 3][..]), ("J alone", &[1]), ("G alone", &[2])] {
         measure(name, &dates(styles, &mut random)?);
     }
     Ok(())

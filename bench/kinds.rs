@@ -8,6 +8,9 @@ use crate::words::{FIXED, HUNG, WEEKDAYS};
 /// The least day; what is answered below it is a refusal.
 const FIRST_DAY: u32 = 1721424;
 
+/// The first and the last day of each style's span.
+const SPAN_ENDS: [&str; 6] = ["1.1 1 J", "31.12 9999 J", "15.10 1582 G", "31.12 9999 G", "15.10 1582 O", "31.12 9999 O"];
+
 /// Each kind with its name.
 pub const KINDS: [(&str, fn(&mut Random) -> String); 7] = [
     ("as in printed sources", source),
@@ -64,13 +67,10 @@ fn common_wrapper(random: &mut Random) -> String {
     }
 }
 
-/// A year of either style, and its letter; no chain of wrappers leads out of the span from there.
+/// A year of any style, and its letter; no chain of wrappers leads out of the span from there.
 fn year(random: &mut Random) -> String {
-    if random.percent(50) {
-        format!("{} J", random.among(2, 9998))
-    } else {
-        format!("{} G", random.among(1584, 9998))
-    }
+    let (first, style) = random.one_of(&[(2, 'J'), (1584, 'G'), (1584, 'O')]);
+    format!("{} {style}", random.among(first, 9998))
 }
 
 /// A year from 1200 to 1700, mostly J.
@@ -128,7 +128,7 @@ fn mixed(random: &mut Random) -> String {
 fn misspelt(random: &mut Random) -> String {
     let mut line = source(random);
     let at = random.among(0, line.len() as u64 - 1) as usize;
-    let other = random.one_of(b"abcdefghijklmnopqrstuvwxyz0123456789 .JG") as char;
+    let other = random.one_of(b"abcdefghijklmnopqrstuvwxyz0123456789 .JGO") as char;
     match random.among(0, 2) {
         0 => line.replace_range(at..=at, other.encode_utf8(&mut [0])),
         1 => line.insert(at, other),
@@ -142,11 +142,11 @@ fn doubtful(random: &mut Random) -> String {
     match random.among(0, 13) {
         0 => String::new(),
         1 => format!("{} {}", wrapper(random), chain(random)),
-        2 => format!("{} {} G", feast_word(random), random.among(1, 1600)),
+        2 => format!("{} {} {}", feast_word(random), random.among(1, 1600), random.one_of(&["G", "O"])),
         3 => format!("{}.{} {}", random.among(29, 32), random.one_of(&[2, 4, 6, 9, 11, 13]), year(random)),
-        4 => format!("{} 1582 G", feast_word(random)),
+        4 => format!("{} 1582 {}", feast_word(random), random.one_of(&["G", "O"])),
         5 => format!("{} {} {}", wrapper(random), random.among(1, 31), year(random)),
-        6 => format!("{} {}", wrapper(random), random.one_of(&["1.1 1 J", "15.10 1582 G", "31.12 9999 J", "31.12 9999 G"])),
+        6 => format!("{} {}", wrapper(random), random.one_of(&SPAN_ENDS)),
         _ => misspelt(random),
     }
 }

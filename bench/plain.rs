@@ -4,7 +4,7 @@
 mod reader;
 mod words;
 
-use reader::LONGEST_LINE;
+use reader::{JULIAN, LONGEST_LINE};
 use std::io::{self, Read, Write};
 
 /// The bytes that are read at a time.
@@ -37,7 +37,7 @@ const fn digits(number: u32) -> u64 {
 }
 
 /// The date by the formulas of Neri and Schneider, 'Euclidean affine functions and their application to calendar algorithms', in years that
-/// begin with March; the days that the Gregorian style leaves out are put in before.
+/// begin with March; the days that Gregorian dates leave out are put in before.
 fn date(day: u32, gregorian: bool) -> (u32, u32, u32) {
     let behind = day - 1721118 - 2 * u32::from(gregorian);
     let centuries = (4 * behind + 3) / 146097 * u32::from(gregorian);
@@ -50,19 +50,19 @@ fn date(day: u32, gregorian: bool) -> (u32, u32, u32) {
 }
 
 /// Puts a day and its date to the output, and tells how many bytes they have; first come twelve whose places are always the same.
-fn put(number: u32, gregorian: bool, output: &mut [u8]) -> usize {
+fn put(number: u32, style: u8, output: &mut [u8]) -> usize {
     output[1..9].copy_from_slice(&digits(number).to_le_bytes());
     output[..2].copy_from_slice(b"0 ");
     output[9..12].copy_from_slice(&[b' ', b'1' + (number % 7) as u8, b' ']);
-    let (day, month, year) = date(number, gregorian);
+    let (day, month, year) = date(number, style != JULIAN);
     let ((day, day_bits), (month, month_bits)) = (SMALL[day as usize % 32], SMALL[month as usize % 32]);
     let month = (u64::from(b' ') << (month_bits + 8)) | (month << 8) | u64::from(b'.');
     let day_month = day | (month << day_bits);
     output[12..20].copy_from_slice(&day_month.to_le_bytes());
     let at = 14 + (day_bits + month_bits) as usize / 8;
     let zeros = (digits(year) & 0x0f0f_0f0f_0f0f_0f0f).trailing_zeros() & !7;
-    let style = u32::from_le_bytes(if gregorian { *b" G\n\0" } else { *b" J\n\0" });
-    let year_style = (digits(year) >> zeros) | (u64::from(style) << (64 - zeros));
+    let ending = u32::from_le_bytes([b' ', style, b'\n', 0]);
+    let year_style = (digits(year) >> zeros) | (u64::from(ending) << (64 - zeros));
     output[at..at + 8].copy_from_slice(&year_style.to_le_bytes());
     at + 11 - zeros as usize / 8
 }
@@ -71,12 +71,12 @@ fn put(number: u32, gregorian: bool, output: &mut [u8]) -> usize {
 fn answer(page: &[u8], output: &mut [u8]) -> usize {
     let (mut start, mut at) = (0, 0);
     while start < page.len() {
-        let (answer, gregorian, end) = reader::line(page, start);
+        let (answer, style, end) = reader::line(page, start);
         at += if answer < FIRST_DAY {
             output[at..at + 2].copy_from_slice(&[b'0' + answer as u8, b'\n']);
             2
         } else {
-            put(answer, gregorian, &mut output[at..at + 32])
+            put(answer, style, &mut output[at..at + 32])
         };
         start = end + 1;
     }

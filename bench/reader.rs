@@ -18,9 +18,14 @@ const YEAR: u32 = 4;
 const DATE: u32 = 5;
 const SPAN: u32 = 6;
 
-/// The first day of each style's span, and how many follow it.
-const JULIAN: (u32, u32) = (1721424, 5373557 - 1721424);
-const GREGORIAN: (u32, u32) = (2299161, 5373484 - 2299161);
+/// The styles, which are told by their letters: all but the Julian have the Gregorian dates, and all but the Gregorian the Julian Easter.
+pub const JULIAN: u8 = b'J';
+const GREGORIAN: u8 = b'G';
+const OLD_EASTER: u8 = b'O';
+
+/// The first day of the span of Julian dates and of Gregorian ones, and how many follow it.
+const JULIAN_SPAN: (u32, u32) = (1721424, 5373557 - 1721424);
+const GREGORIAN_SPAN: (u32, u32) = (2299161, 5373484 - 2299161);
 
 /// Days of each month in a common year, by its number.
 static LENGTHS: [u32; 13] = [0, 31, 28, 31, 30, 31, 30, 31, 31, 30, 31, 30, 31];
@@ -35,8 +40,8 @@ const fn length_at(told: &[u8; 2], length: u32) -> u32 {
     (length - 4) << ((told[0] + told[1]) % 32)
 }
 
-/// The day or the refusal of a line, whether its style is the Gregorian, and its end.
-type Told = (u32, bool, usize);
+/// The day or the refusal of a line, the letter of its style, and its end.
+type Told = (u32, u8, usize);
 
 /// The feast or date of a line.
 enum Anchor {
@@ -47,7 +52,7 @@ enum Anchor {
 /// The year at a line's end.
 struct Ending {
     year: u32,
-    gregorian: bool,
+    style: u8,
     /// The bytes of year and style.
     length: usize,
 }
@@ -105,16 +110,16 @@ fn date(text: u64) -> Option<(u32, u32, usize)> {
 fn ending(text: u64) -> Option<Ending> {
     let has_four = text & 0xff_f0f0_f0f0 == 0x20_3030_3030;
     let count = if has_four { 4 } else { before_first(b' ', text.into()) };
-    let style = text.wrapping_shr(8 * count + 8) as u16;
-    let gregorian = style == u16::from_le_bytes(*b"G\n");
+    let [style, feed] = (text.wrapping_shr(8 * count + 8) as u16).to_le_bytes();
     let digits = ((text ^ 0x3030_3030_3030_3030).wrapping_shl((8 * count).wrapping_neg()) >> 32) as u32;
     let good = ((digits.wrapping_add(0x7676_7676) | digits) & 0x8080_8080 == 0)
         & (text as u8 != b'0')
         & (count.wrapping_sub(1) < 4)
-        & (gregorian | (style == u16::from_le_bytes(*b"J\n")));
+        & ((style == JULIAN) | (style == GREGORIAN) | (style == OLD_EASTER))
+        & (feed == b'\n');
     let pairs = (digits.wrapping_mul((10 << 8) + 1) >> 8) & 0x00ff_00ff;
     let year = pairs.wrapping_mul((100 << 16) + 1) >> 16;
-    good.then_some(Ending { year, gregorian, length: count as usize + 2 })
+    good.then_some(Ending { year, style, length: count as usize + 2 })
 }
 
 /// The last day of a year, or of the year before the first.
@@ -127,13 +132,13 @@ fn day_of_place(place: Place, year: u32, gregorian: bool) -> u32 {
     last_day(year - u32::from(place.early), gregorian).wrapping_add_signed(place.days.into())
 }
 
-/// Days from 21 March to Easter's limit.
-fn moon(year: u32, gregorian: bool) -> u32 {
-    let years = year % 19;
-    if !gregorian {
-        return (19 * years + 15) % 30;
+/// Days from the style's 21 March to Easter's limit, which for the old Easter lies as much later as the Gregorian dates are ahead.
+fn moon(year: u32, style: u8) -> u32 {
+    let (years, century) = (year % 19, year / 100);
+    if style != GREGORIAN {
+        let ahead = if style == JULIAN { 0 } else { century - century / 4 - 2 };
+        return (19 * years + 15) % 30 + ahead;
     }
-    let century = year / 100;
     let days = (19 * years + century - century / 4 - (8 * century + 13) / 25 + 15) % 30;
     days - u32::from(days + u32::from(years > 10) > 28)
 }
@@ -143,7 +148,8 @@ fn is_leap(year: u32, gregorian: bool) -> bool {
 }
 
 /// The day or the refusal of what a line says.
-fn day(wrappers: &[u8], anchor: Anchor, year: u32, gregorian: bool) -> u32 {
+fn day(wrappers: &[u8], anchor: Anchor, year: u32, style: u8) -> u32 {
+    let gregorian = style != JULIAN;
     if gregorian && year < 1582 {
         return YEAR;
     }
@@ -152,7 +158,7 @@ fn day(wrappers: &[u8], anchor: Anchor, year: u32, gregorian: bool) -> u32 {
             if gregorian && year == 1582 && word.hangs_on_easter {
                 return YEAR;
             }
-            let moon = moon(year, gregorian) * u32::from(word.hangs_on_easter);
+            let moon = moon(year, style) * u32::from(word.hangs_on_easter);
             (day_of_place(word.place, year, gregorian) + moon, &word.step)
         }
         Anchor::Date(day, month) => {
@@ -162,7 +168,7 @@ fn day(wrappers: &[u8], anchor: Anchor, year: u32, gregorian: bool) -> u32 {
             (day_of_place(place(day as i32, month), year, gregorian), &STAY)
         }
     };
-    let (first, more) = if gregorian { GREGORIAN } else { JULIAN };
+    let (first, more) = if gregorian { GREGORIAN_SPAN } else { JULIAN_SPAN };
     let mut weekday = (day % 7) as usize;
     let mut outside = false;
     let mut take = |step: &Step| {
@@ -185,7 +191,7 @@ fn refused(page: &[u8], start: usize, mut at: usize) -> Told {
         }
     };
     let answer = if (1..=LONGEST_LINE).contains(&(end - start)) { FORM } else { LENGTH };
-    (answer, false, end)
+    (answer, 0, end)
 }
 
 /// What is told of the line that starts at a place of the page.
@@ -218,10 +224,10 @@ pub fn line(page: &[u8], start: usize) -> Told {
             return refused(page, start, at - 1);
         }
     };
-    let Some(Ending { year, gregorian, length }) = ending(sixteen(page, at) as u64) else {
+    let Some(Ending { year, style, length }) = ending(sixteen(page, at) as u64) else {
         return refused(page, start, at);
     };
     let end = at + length;
-    let answer = if end - start > LONGEST_LINE { LENGTH } else { day(&wrappers[..count], anchor, year, gregorian) };
-    (answer, gregorian, end)
+    let answer = if end - start > LONGEST_LINE { LENGTH } else { day(&wrappers[..count], anchor, year, style) };
+    (answer, style, end)
 }
