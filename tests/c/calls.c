@@ -588,7 +588,8 @@ static void check_known_lines(void)
 static void check_lines_of_no_form(void)
 {
     static const char *const lines[] = {
-        "J", "1225 J", "easter J", "easter 1225", "easter 1225 ", "easter 1225 j", "easter 1225 O", "easter 1225 JG",
+        "J", "1225 J", "easter J", "easter 1225", "easter 1225 ", "easter 1225 j", "easter 1225 o", "easter 1225 N", "easter 1225 0",
+        "easter 1225 JG", "easter 2024 OG",
         "easter 1225 J J", "easter 1225J", "Easter 1225 J", "EASTER 1225 J", " easter 1225 J", "easter 1225 J ",
         "easter  1225 J", "easter 1225  J", "easter\t1225 J", "easter 1225 J\r", "easter 1225 J\n", "easter 0 J",
         "easter 0225 J", "easter 01225 J", "easter 10000 J", "easter -225 J", "easter +225 J", "easter 12 25 J",

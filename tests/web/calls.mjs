@@ -1,7 +1,7 @@
 // Prints calls on numbers, 'CALL NUMBER ..': every feast in some years, dates about the ends of months and spans, weekdays and distances of days about
 // those and between, and in each place of a call numbers about the bounds of lists and of bits.
 
-const STYLES = [1, 2];
+const STYLES = [1, 2, 3];
 const YEARS = [0, 1, 2, 4, 100, 1225, 1500, 1581, 1582, 1583, 1587, 1600, 1700, 1900, 1999, 2000, 2026, 9996, 9998, 9999, 10000];
 const DATES = [
     [0, 1, 1], [1, 1, 1], [1, 1, 2], [4, 2, 29], [1500, 2, 29], [1582, 2, 29], [1582, 10, 4], [1582, 10, 5], [1582, 10, 14], [1582, 10, 15],
