@@ -1,18 +1,18 @@
 -- What holds beyond the contracts; of the public calls as a user makes them, by a style's number.
-use mathlib.Core.Bool.{Bool, true, false, cond, true≢false}
+use mathlib.Core.Bool.{Bool, true, false, cond}
 use mathlib.Core.List.{[], _∷_}
 use mathlib.Core.Logic.{_↔_, _⊎_, inl, inr}
 use mathlib.Core.Path.{_≡_, refl, sym, _∙_, ap}
 use Prim.Native.Nat.{ℕ, pred, _+_, _≤_, _<_}
 use native.Mathlib.Omega.{arith}
+use lib.Dec.{eqb}
 use lib.IntN.{ℤ, pos, natAbs}
-use borrow.Author.Tests.{le-leb, lt-leb}
+use borrow.Author.Tests.{le-leb, lt-leb, eqb-true, eqb-false}
 use Rattle.calendar.proofs.date.Laws as laws
 pub use Rattle.calendar.proofs.date.Laws.{day-range}
 use Rattle.calendar.proofs.distance.Laws.{both-days, distance-size, zero-same-day, same-day-zero}
-use Rattle.calendar.proofs.range.Laws.{range, in-range}
 use Rattle.calendar.proofs.span.Laws.{span-small}
-use Rattle.calendar.proofs.style.Laws.{by-number, by-range, number-range, number-kept, both-in, given-by-number, given-of-any}
+use Rattle.calendar.proofs.style.Laws.{by-number, both-in, given-by-number, given-of-any}
 use Rattle.calendar.proofs.weekday.Laws.{is-later, is-earlier}
 use Rattle.calendar.proofs.year.Laws.{new-year-returns}
 pub use Rattle.calendar.proofs.year.Laws.{leap-years-return}
@@ -23,9 +23,9 @@ use Rattle.calendar.specs.Range.{between}
 use Rattle.calendar.specs.Refusal.{Holds, Lowest}
 use Rattle.calendar.specs.Return.{ReturnsAfter, weekdayPeriod}
 use Rattle.calendar.specs.Span.{firstDay, lastDay, earliest, inSpan, spanTests, dayOrRefusal}
-use Rattle.calendar.specs.Style.{styleNumber, datesBy, calendarBy, styleBy, styleOf, styleRefusal, styleOrZero, byNumber}
+use Rattle.calendar.specs.Style.{styleNumber, datesBy, styleOf, styleRefusal, styleOrZero, byNumber}
 use Rattle.calendar.specs.Weekday.{weekday, weekdayOfDay, weekdayRefusal, firstWeekday, leastAway}
-use Rattle.calendar.specs.Year.{daysOfYears, firstYear, newYear, served}
+use Rattle.calendar.specs.Year.{daysOfYears, newYear, served}
 use Rattle.calendar.specs.declared.date.DateAnswer.the-variants.{On, NoDate}
 use Rattle.calendar.specs.declared.date.DateAnswer.{DateAnswer}
 use Rattle.calendar.specs.declared.distance.DistanceAnswer.the-variants.{Days}
@@ -34,7 +34,7 @@ use Rattle.calendar.specs.declared.span.DayAnswer.the-variants.{Day, NoD
 use Rattle.calendar.specs.declared.span.DayAnswer.{DayAnswer}
 use Rattle.calendar.specs.declared.style.Calendar.the-variants.{Julian, Gregorian}
 use Rattle.calendar.specs.declared.style.Calendar.{Calendar}
-use Rattle.calendar.specs.declared.style.Style.the-variants.{J, G}
+use Rattle.calendar.specs.declared.style.Style.the-variants.{J, G, O}
 use Rattle.calendar.specs.declared.style.Style.{Style}
 use Rattle.calendar.specs.declared.style.StyleAnswer.the-variants.{Known, NoStyle}
 use Rattle.calendar.specs.declared.weekday.Side.the-variants.{After, Before}
@@ -53,21 +53,21 @@ one-answer k n r r′ h h′ = both-in (styleOf k) (λ s. one-answer-in-style s 
 pub style-numbers : (k : ℕ)
     → ((styleRefusal (styleOf k) ≡ 0) × (styleOrZero (styleOf k) ≡ k))
     ⊎ ((styleRefusal (styleOf k) ≡ 1) × ((s : Style) → styleNumber s ≡ k → ⊥))
-style-numbers k = rw (by-range k) (go _ refl)
+unfolding styleOf
+style-numbers k = go _ _ _ refl refl refl
   where
-    go : (b : Bool) → between 1 k 3 ≡ b
-        → let t = cond b (Known (styleBy k)) (NoStyle Name) in
-        ((styleRefusal t ≡ 0) × (styleOrZero t ≡ k)) ⊎ ((styleRefusal t ≡ 1) × ((s : Style) → styleNumber s ≡ k → ⊥))
-    go true e = let r = range 1 k 3 e in inl (refl, number-kept k (r .0) (r .1))
-    go false e =
-        inr (refl, λ s own. let r = number-range s in true≢false (sym (in-range 1 k 3 (omega (arith, own)) (omega (arith, own))) ∙ e))
+    none : (s : Style) → eqb k 1 ≡ false → eqb k 2 ≡ false → eqb k 3 ≡ false → styleNumber s ≡ k → ⊥
+    none J p q r e = eqb-false k 1 p (sym e)
+    none G p q r e = eqb-false k 2 q (sym e)
+    none O p q r e = eqb-false k 3 r (sym e)
 
--- A calendar has one truth value by which it is handed on.
-pub one-truth : (a b : Bool) → calendarBy a ≡ calendarBy b → a ≡ b
-one-truth true true e = refl
-one-truth true false e = absurd (omega (arith, ap firstYear e))
-one-truth false true e = absurd (omega (arith, ap firstYear e))
-one-truth false false e = refl
+    go : (a b c : Bool) → eqb k 1 ≡ a → eqb k 2 ≡ b → eqb k 3 ≡ c
+        → let t = cond a (Known J) (cond b (Known G) (cond c (Known O) (NoStyle Name))) in
+        ((styleRefusal t ≡ 0) × (styleOrZero t ≡ k)) ⊎ ((styleRefusal t ≡ 1) × ((s : Style) → styleNumber s ≡ k → ⊥))
+    go true b c p q r = inl (refl, sym (eqb-true k 1 p))
+    go false true c p q r = inl (refl, sym (eqb-true k 2 q))
+    go false false true p q r = inl (refl, sym (eqb-true k 3 r))
+    go false false false p q r = inr (refl, λ s e. none s p q r e)
 
 -- "The lowest number that holds is given, and none otherwise": date to day, the weekday and day to date are refused by n exactly when it is that.
 pub date-to-day-refused : (k y m d n : ℕ) → n < earliest

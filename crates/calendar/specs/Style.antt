@@ -1,5 +1,5 @@
 -- The styles, each with two sides: the calendar that its dates go by, and the calendar that its Easter goes by.
-use mathlib.Core.Bool.{Bool, true, false, cond}
+use mathlib.Core.Bool.{false, cond}
 use mathlib.Core.List.{List, [], _∷_}
 use Prim.Native.Char.{code}
 use Prim.Native.Nat.{ℕ}
@@ -42,15 +42,6 @@ easterBy O = Julian
 abbrev pub wholly : Calendar → Style
 wholly Julian = J
 wholly Gregorian = G
-
--- the calendar by whether it is the Gregorian one
-abbrev pub calendarBy : Bool → Calendar
-calendarBy true = Gregorian
-calendarBy false = Julian
-
--- the style by its number; J for any other number
-abbrev pub styleBy : ℕ → Style
-styleBy n = cond (eqb n (styleNumber G)) G (cond (eqb n (styleNumber O)) O J)
 
 -- refusal 1: "a style .. number given to a public call is not in its list"
 unfoldable pub styleOf : ℕ → StyleAnswer

@@ -7,9 +7,7 @@ use crate::span::is_in_span;
 use crate::style::Calendar;
 use crate::style::Style;
 use crate::style::StyleAnswer;
-use crate::style::calendar_by;
 use crate::style::dates_by;
-use crate::style::is_gregorian;
 use crate::style::style_of;
 use crate::year::NamedYear;
 use crate::year::is_leap;
@@ -20,7 +18,6 @@ ghost use mathlib.Core.Path.{_≡_};
 ghost use mathlib.Core.Bool.{true, false};
 ghost use Prim.Native.Nat.{pred, _≤_, _<_};
 ghost use Rattle.calendar.specs.Year.{served};
-ghost use Rattle.calendar.specs.Style.{calendarBy};
 ghost use Rattle.calendar.specs.Date.{monthLength, daysOfMonths, MonthOf, isDate, dayNumber, dayInCalendar, dayInYear, dayOfDate, IsDateInCalendar, IsDateInStyle, IsDateOfDay};
 
 // A date, or why there is none.
@@ -107,11 +104,10 @@ fn day_number(calendar: Calendar, year: u64, month: u64, day: u64) -> u64
     start + (979 * month - 966) / 32 + (day - 1) - 367 * behind_february
 }
 
-// The day of a date; its calendar comes as a truth value, which is handed on in a register and not in memory.
-fn day_by(gregorian: bool, year: u64, month: u64, day: u64) -> DayAnswer
-    ensures { λ r. ⌜ r ≡ dayInCalendar (calendarBy gregorian) year month day ⌝ }
+// The day of a date of a calendar.
+pub fn day_in_calendar(calendar: Calendar, year: u64, month: u64, day: u64) -> DayAnswer
+    ensures { λ r. ⌜ r ≡ dayInCalendar calendar year month day ⌝ }
 {
-    let calendar = calendar_by(gregorian);
     if !is_served(calendar, year) {
         return DayAnswer::NoDay(Refusal::Year);
     }
@@ -119,13 +115,6 @@ fn day_by(gregorian: bool, year: u64, month: u64, day: u64) -> DayAnswer
         return DayAnswer::NoDay(Refusal::Date);
     }
     day_within(calendar, day_number(calendar, year, month, day))
-}
-
-// The day of a date of a calendar.
-pub fn day_in_calendar(calendar: Calendar, year: u64, month: u64, day: u64) -> DayAnswer
-    ensures { λ r. ⌜ r ≡ dayInCalendar calendar year month day ⌝ }
-{
-    day_by(is_gregorian(calendar), year, month, day)
 }
 
 // The day of a date of a named year.

@@ -1,8 +1,7 @@
 // The styles of dating, each with two sides: the calendar that its dates go by, and the calendar that its Easter goes by.
-use crate::range::is_between;
 use crate::refusal::Refusal;
 ghost use mathlib.Core.Path.{_≡_};
-ghost use Rattle.calendar.specs.Style.{styleNumber, styleLetter, datesBy, easterBy, calendarBy, styleBy, styleOf};
+ghost use Rattle.calendar.specs.Style.{styleLetter, datesBy, easterBy, styleOf};
 
 // A calendar.
 pub enum Calendar {
@@ -30,31 +29,11 @@ pub enum StyleAnswer {
 pub fn style_of(number: u64) -> StyleAnswer
     ensures { λ r. ⌜ r ≡ styleOf number ⌝ }
 {
-    if !is_between(1, number, 3) {
-        return StyleAnswer::NoStyle(Refusal::Name);
-    }
-    StyleAnswer::Known(style_by(number))
-}
-
-// The style by its number; J for any other number.
-pub fn style_by(number: u64) -> Style
-    ensures { λ r. ⌜ r ≡ styleBy number ⌝ }
-{
     match number {
-        2 => Style::G,
-        3 => Style::O,
-        _ => Style::J,
-    }
-}
-
-// The number of a style.
-pub fn style_number(style: Style) -> u64
-    ensures { λ r. ⌜ r ≡ styleNumber style ⌝ }
-{
-    match style {
-        Style::J => 1,
-        Style::G => 2,
-        Style::O => 3,
+        1 => StyleAnswer::Known(Style::J),
+        2 => StyleAnswer::Known(Style::G),
+        3 => StyleAnswer::Known(Style::O),
+        _ => StyleAnswer::NoStyle(Refusal::Name),
     }
 }
 
@@ -78,26 +57,6 @@ pub fn easter_by(style: Style) -> Calendar
         Style::G => Calendar::Gregorian,
         Style::O => Calendar::Julian,
     }
-}
-
-// Whether a calendar is the Gregorian one.
-pub(crate) fn is_gregorian(calendar: Calendar) -> bool
-    ensures { λ r. ⌜ calendarBy r ≡ calendar ⌝ }
-{
-    match calendar {
-        Calendar::Julian => false,
-        Calendar::Gregorian => true,
-    }
-}
-
-// The calendar by whether it is the Gregorian one.
-pub(crate) fn calendar_by(gregorian: bool) -> Calendar
-    ensures { λ r. ⌜ r ≡ calendarBy gregorian ⌝ }
-{
-    if gregorian {
-        return Calendar::Gregorian;
-    }
-    Calendar::Julian
 }
 
 // The byte of a style's letter.

@@ -6,10 +6,9 @@ use calendar::range::is_between;
 use calendar::refusal::Refusal;
 use calendar::span::DayAnswer;
 use calendar::span::day_within;
+use calendar::style::Style;
 use calendar::style::StyleAnswer;
 use calendar::style::dates_by;
-use calendar::style::style_by;
-use calendar::style::style_number;
 use calendar::style::style_of;
 use calendar::weekday::Side;
 use calendar::weekday::Start;
@@ -18,7 +17,6 @@ use calendar::year::NamedYear;
 use calendar::year::is_leap;
 ghost use mathlib.Core.Path.{_≡_};
 ghost use Prim.Native.Nat.{_≤_};
-ghost use Rattle.calendar.specs.Style.{styleBy};
 ghost use Rattle.calendar.specs.Year.{named};
 ghost use Rattle.church.specs.Feast.{advent, rule, ruleDay, feastInYear, feastOfYear};
 
@@ -123,14 +121,11 @@ fn advent_of_year(named: NamedYear) -> DayAnswer
     )
 }
 
-// The day of a feast of a year; its style comes as a number, which is handed on in a register and not in memory.
-fn feast_by(style: u64, year: u64, feast: u64) -> DayAnswer
-    ensures { λ r. ⌜ r ≡ feastInYear (named (styleBy style) year) feast ⌝ }
+// The day of a feast of a year; its style and year come by themselves, which are handed on in registers, as a record is not.
+fn feast_by(style: Style, year: u64, feast: u64) -> DayAnswer
+    ensures { λ r. ⌜ r ≡ feastInYear (named style year) feast ⌝ }
 {
-    let named = NamedYear {
-        style: style_by(style),
-        year,
-    };
+    let named = NamedYear { style, year };
     if !is_between(1, feast, 48) {
         return DayAnswer::NoDay(Refusal::Name);
     }
@@ -148,7 +143,7 @@ pub fn feast_in_year(named: NamedYear, feast: u64) -> DayAnswer
     ensures { λ r. ⌜ r ≡ feastInYear named feast ⌝ }
 {
     let style = named.style;
-    feast_by(style_number(style), named.year, feast)
+    feast_by(style, named.year, feast)
 }
 
 // Feast: refused by 1, 4 or 6.
@@ -156,7 +151,7 @@ pub fn feast_of_year(style: u64, feast: u64, year: u64) -> DayAnswer
     ensures { λ r. ⌜ r ≡ feastOfYear style feast year ⌝ }
 {
     match style_of(style) {
-        StyleAnswer::Known(_) => feast_by(style, year, feast),
+        StyleAnswer::Known(known) => feast_by(known, year, feast),
         StyleAnswer::NoStyle(refusal) => DayAnswer::NoDay(refusal),
     }
 }

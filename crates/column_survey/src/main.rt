@@ -80,4 +80,5 @@ fn print_survey(letter: &[u8], tally: Tally) {
 fn main() {
     print_survey(b"J", survey(Style::J));
     print_survey(b"G", survey(Style::G));
+    print_survey(b"O", survey(Style::O));
 }

@@ -4,7 +4,6 @@ use calendar::refusal::Refusal;
 use calendar::span::DayAnswer;
 use calendar::span::day_or_refusal;
 use calendar::style::Style;
-use calendar::style::style_number;
 use calendar::year::NamedYear;
 use words::numeral::four_digits;
 use words::numeral::number_of;
@@ -111,7 +110,7 @@ pub fn day_of_line(line: &[u8]) -> DayAnswer
         return DayAnswer::NoDay(Refusal::Form);
     };
     let style = named.style;
-    phrase_in_year(&line[..phrase], style_number(style), named.year)
+    phrase_in_year(&line[..phrase], style, named.year)
 }
 
 // The reading of a dating line; where that has a day, its ending is told by its last bytes.

@@ -2,13 +2,12 @@
 use crate::act::act;
 use crate::anchor::anchor_in_year;
 use calendar::span::DayAnswer;
+use calendar::style::Style;
 use calendar::style::dates_by;
-use calendar::style::style_by;
 use calendar::year::NamedYear;
 use words::wrapper::lead_of;
 ghost use Prim.Native.Nat.{_≤_};
 ghost use lib.ListN.{length};
-ghost use Rattle.calendar.specs.Style.{styleBy};
 ghost use Rattle.calendar.specs.Year.{named};
 ghost use Rattle.calendar.specs.declared.refusal.Refusal.the-variants.{Form};
 ghost use Rattle.calendar.specs.declared.span.DayAnswer.the-variants.{NoDay};
@@ -16,17 +15,15 @@ ghost use Rattle.words.specs.Told.{Told};
 ghost use Rattle.dating.specs.Phrase.{phraseDay};
 ghost use Rattle.dating.specs.Steps.{phrases};
 
-// The day of a phrase in a year whose style comes as a number, which is handed on in a register and not in memory.
+// The day of a phrase in a year; style and year come by themselves, which are handed on in registers, as a record is not.
 // It calls itself once for each wrapper, so its depth is bounded by the phrase's length.
-pub(crate) fn phrase_in_year(phrase: &[u8], style: u64, year: u64) -> DayAnswer
+pub(crate) fn phrase_in_year(phrase: &[u8], style: Style, year: u64) -> DayAnswer
     requires { ⌜ length (now phrase) ≤ 120 ⌝ }
-    ensures { λ r. ⌜ Told phrases (phraseDay (named (styleBy style) year)) (NoDay Form) (now (phrase .entry)) r ⌝ }
+    ensures { λ r. ⌜ Told phrases (phraseDay (named style year)) (NoDay Form) (now (phrase .entry)) r ⌝ }
 {
     let found = lead_of(phrase);
-    let known = style_by(style);
     if found.length == 0 {
-        let named = NamedYear { style: known, year };
-        let answer = anchor_in_year(phrase, named);
+        let answer = anchor_in_year(phrase, NamedYear { style, year });
         let DayAnswer::Day(day) = answer else {
             return answer;
         };
@@ -37,5 +34,5 @@ pub(crate) fn phrase_in_year(phrase: &[u8], style: u64, year: u64) -> DayAnswer
     let DayAnswer::Day(day) = behind else {
         return behind;
     };
-    act(found.number, dates_by(known), day)
+    act(found.number, dates_by(style), day)
 }

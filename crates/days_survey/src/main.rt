@@ -12,6 +12,8 @@ const JULIAN: u64 = 1;
 
 const GREGORIAN: u64 = 2;
 
+const OLD_EASTER: u64 = 3;
+
 // A date and its weekday, reached by adding one day at a time.
 struct Walked {
     year: u64,
@@ -43,7 +45,7 @@ fn one_more(n: u64) -> u64 {
 }
 
 fn has_leap_day(style: u64, year: u64) -> bool {
-    if style == GREGORIAN {
+    if style != JULIAN {
         if year % 100 == 0 {
             return year % 400 == 0;
         }
@@ -182,9 +184,11 @@ fn print_survey(letter: &[u8], tally: Tally) {
 }
 
 fn main() {
-    // 1 January 1 J was a Saturday, and 15 October 1582 G a Friday.
+    // 1 January 1 J was a Saturday, and 15 October 1582 G, where O begins too, a Friday.
     let julian_start = walked_to(1, 1, 1, 6);
     let gregorian_start = walked_to(1582, 10, 15, 5);
     print_survey(b"J", survey(JULIAN, 1721424, 5373557, julian_start));
     print_survey(b"G", survey(GREGORIAN, 2299161, 5373484, gregorian_start));
+    let same_start = walked_to(1582, 10, 15, 5);
+    print_survey(b"O", survey(OLD_EASTER, 2299161, 5373484, same_start));
 }

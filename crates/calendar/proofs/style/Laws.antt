@@ -2,15 +2,12 @@
 use mathlib.Core.Bool.{Bool, true, false, cond, true≢false}
 use mathlib.Core.List.{List, [], _∷_}
 use mathlib.Core.Logic.{_↔_}
-use mathlib.Core.Path.{_≡_, refl, sym, _∙_, subst}
-use Prim.Native.Nat.{ℕ, zero, suc, _≤_}
-use native.Mathlib.Omega.{arith}
+use mathlib.Core.Path.{_≡_, refl, sym}
+use Prim.Native.Nat.{ℕ}
 use lib.Dec.{T, eqb}
-use borrow.Author.Tests.{ne-eqb, le-leb, lt-leb}
 use Rattle.calendar.proofs.refusal.Laws.{AllPass, rising, given, given-of}
-use Rattle.calendar.specs.Range.{between}
 use Rattle.calendar.specs.Refusal.{refusalNumber, Test, _unless_, checked, Holds, Lowest}
-use Rattle.calendar.specs.Style.{styleNumber, styleBy, styleOf, inStyle, byNumber}
+use Rattle.calendar.specs.Style.{styleNumber, styleOf, inStyle, byNumber}
 use Rattle.calendar.specs.declared.refusal.Refusal.the-variants.{Name}
 use Rattle.calendar.specs.declared.refusal.Refusal.{Refusal}
 use Rattle.calendar.specs.declared.style.Style.the-variants.{J, G, O}
@@ -25,50 +22,16 @@ by-number J = refl
 by-number G = refl
 by-number O = refl
 
--- the numbers of styles are a range
-pub by-range : (n : ℕ) → styleOf n ≡ cond (between 1 n 3) (Known (styleBy n)) (NoStyle Name)
-unfolding styleOf between
-by-range zero = refl
-by-range (suc zero) = refl
-by-range (suc (suc zero)) = refl
-by-range (suc (suc (suc zero))) = refl
-by-range (suc (suc (suc (suc n)))) =
-    let k = suc (suc (suc (suc n))) in
-    rw (ne-eqb k 1 (λ e. omega arith), ne-eqb k 2 (λ e. omega arith), ne-eqb k 3 (λ e. omega arith), le-leb 1 k (omega arith), lt-leb k 3 (omega arith))
-
--- which are the styles' own
-pub number-range : (s : Style) → (1 ≤ styleNumber s) × (styleNumber s ≤ 3)
-number-range J = omega arith
-number-range G = omega arith
-number-range O = omega arith
-
-pub number-kept : (k : ℕ) → 1 ≤ k → k ≤ 3 → styleNumber (styleBy k) ≡ k
-number-kept zero low high = absurd (omega arith)
-number-kept (suc zero) low high = refl
-number-kept (suc (suc zero)) low high = refl
-number-kept (suc (suc (suc zero))) low high = refl
-number-kept (suc (suc (suc (suc k)))) low high = absurd (omega arith)
-
--- a style that is known by a number is the style by that number
-pub by-its-number : (s : Style) → styleBy (styleNumber s) ≡ s
-by-its-number J = refl
-by-its-number G = refl
-by-its-number O = refl
-
-pub known-by : (k : ℕ) (s : Style) → styleOf k ≡ Known s → styleBy k ≡ s
-known-by k s e = go (between 1 k 3) (sym (by-range k) ∙ e)
-  where
-    go : (b : Bool) → cond b (Known (styleBy k)) (NoStyle Name) ≡ Known s → styleBy k ≡ s
-    go true h = cc
-    go false h = let z : _≡_ {A = ℕ} 0 1 = cc in absurd (omega arith)
-
 -- what holds in each style, and where there is none, holds whatever the number
 pub by-cases {ℓ} : (P : StyleAnswer → Type ℓ) → ((s : Style) → P (Known s)) → P (NoStyle Name) → (k : ℕ) → P (styleOf k)
-by-cases P known none k = subst P (sym (by-range k)) (go (between 1 k 3))
+unfolding styleOf
+by-cases P known none k = go (eqb k 1) (eqb k 2) (eqb k 3)
   where
-    go : (b : Bool) → P (cond b (Known (styleBy k)) (NoStyle Name))
-    go true = known (styleBy k)
-    go false = none
+    go : (a b c : Bool) → P (cond a (Known J) (cond b (Known G) (cond c (Known O) (NoStyle Name))))
+    go true b c = known J
+    go false true c = known G
+    go false false true = known O
+    go false false false = none
 
 -- two results of one call, by what follows of them in each style and where they are refused
 pub both-in : {C : Type 0} {refused refused′ : Refusal → Type 0} {call call′ : Style → Type 0} (t : StyleAnswer)

@@ -1,14 +1,13 @@
 use borrow.Author.Needs.{needs}
-use Rattle.calendar.proofs.Tested.{failed, held}
-use Rattle.calendar.proofs.style.Laws.{by-range}
+use borrow.Author.Tests.{ne-eqb}
+use Rattle.calendar.specs.Style.{styleOf}
 use Rattle.calendar.proofs.style.style_of.Statement.{statement}
 use Rattle.calendar.proofs.style.style_of.Tie as tie
 
-returns : tie.Need-returns
-returns c = rw (by-range, failed (c .before .is-between .ensures) (c .if1 .taken))
-
-returns-2 : tie.Need-returns-2
-returns-2 c = rw (by-range, held (c .before .before .is-between .ensures) (c .before .if1 .left), c .style-by .ensures)
-
 pub style-of-spec : {M : Type 1} → statement M
-style-of-spec = tie.close (tie.spec (λ c κs. search needs) returns (λ c κs. search needs) returns-2)
+unfolding styleOf
+style-of-spec =
+    tie.close
+    (tie.spec
+    (λ c. rw (c .match .keys1)) (λ c. rw (c .match .keys2)) (λ c. rw (c .match .keys3))
+    (λ c. let none = c .match .rest in rw (ne-eqb _ 1 (none .0 .0 .1), ne-eqb _ 2 (none .0 .1), ne-eqb _ 3 (none .1))))

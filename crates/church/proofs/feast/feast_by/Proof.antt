@@ -6,21 +6,20 @@ use borrow.Author.Needs.{needs}
 use Rattle.calendar.proofs.Tested.{failed, held}
 use Rattle.calendar.proofs.range.Laws.{range}
 use Rattle.calendar.specs.Range.{between}
-use Rattle.calendar.specs.Style.{styleBy}
 use Rattle.calendar.specs.Year.{named}
 use Rattle.church.proofs.feast.Laws.{in-table}
 use Rattle.church.specs.Feast.{rule, ruleDay, feastInYear}
 use Rattle.church.proofs.feast.feast_by.Statement.{statement}
 use Rattle.church.proofs.feast.feast_by.Tie as tie
 
-in-list : (c : tie.Else1) → between 1 (c .before .before .before .args .feast) 48 ≡ true
+in-list : (c : tie.Else1) → between 1 (c .before .before .args .feast) 48 ≡ true
 in-list c = held (c .before .is-between .ensures) (c .if1 .left)
 
 returns : tie.Need-returns
 unfolding feastInYear
 returns c = rw (failed (c .before .is-between .ensures) (c .if1 .taken))
 
-listed : (c : tie.Else1) → (1 ≤ c .before .before .before .args .feast) × (c .before .before .before .args .feast ≤ 48)
+listed : (c : tie.Else1) → (1 ≤ c .before .before .args .feast) × (c .before .before .args .feast ≤ 48)
 listed c = range 1 _ 48 (in-list c)
 
 hung-on-easter-requires : tie.Need-hung-on-easter-requires
@@ -28,9 +27,9 @@ hung-on-easter-requires c κs = omega (arith, listed (c .before))
 
 -- the rule that the feast is kept by, in the year as the code holds it
 kept : (c : tie.Else1)
-    → let a = c .before .before .before .args in
-    ruleDay (named (c .before .before .style-by .result) (a .year)) (rule (a .feast)) ≡ feastInYear (named (styleBy (a .style)) (a .year)) (a .feast)
-kept c = rw (← c .before .before .style-by .ensures) (sym (in-table _ _ (in-list c)))
+    → let a = c .before .before .args in
+    ruleDay (named (a .style) (a .year)) (rule (a .feast)) ≡ feastInYear (named (a .style) (a .year)) (a .feast)
+kept c = sym (in-table _ _ (in-list c))
 
 returns-2 : tie.Need-returns-2
 returns-2 c = c .hung-on-easter .ensures ∙ kept (c .before .before)
@@ -43,7 +42,7 @@ returns-3 c = c .fixed-in-year .ensures ∙ kept (c .before .before .before)
 
 returns-4 : tie.Need-returns-4
 returns-4 c =
-    let feast = c .before .before .before .before .before .before .args .feast in
+    let feast = c .before .before .before .before .before .args .feast in
     let last : feast ≡ 48 = omega (arith, listed (c .before .before .before)) in
     rw last (c .advent-of-year .ensures ∙ rw last at (kept (c .before .before .before)))
 
@@ -51,7 +50,7 @@ pub feast-by-spec : {M : Type 1} → statement M
 feast-by-spec =
     tie.close
     (tie.spec
-    (λ c κs. search needs) (λ c κs. search needs)
+    (λ c κs. search needs)
     returns
     hung-on-easter-requires
     returns-2

@@ -8,7 +8,6 @@ use borrow.Fn.Kinds.{In}
 use borrow.Fn.PlainCycle.{Measures, is, falls, and}
 use Rattle.words.proofs.text.Laws.{rest}
 use Rattle.dating.proofs.phrase.Laws.{leads, shorter, plain-told, wrapped-told, told-in-span}
-use Rattle.calendar.specs.Style.{styleBy}
 use Rattle.calendar.specs.Year.{named}
 use Rattle.words.specs.Told.{Told}
 use Rattle.words.specs.Wrapper.{wrapperOf, leadings, lead}
@@ -18,7 +17,6 @@ use Rattle.calendar.specs.declared.refusal.Refusal.the-variants.{Form}
 use Rattle.calendar.specs.declared.span.DayAnswer.the-variants.{NoDay}
 use Rattle.words.specs.declared.wrapper.Lead.the-variants.{Wrapped, Plain}
 use Rattle.calendar.proofs.style.dates_by.Reads as dates-by
-use Rattle.calendar.proofs.style.style_by.Reads as style-by
 use Rattle.dating.proofs.anchor.anchor_in_year.Reads as anchor-in-year
 use Rattle.dating.proofs.phrase.+phrase_in_year.Lts-phrase_in_year as lts
 use Rattle.dating.proofs.phrase.phrase_in_year.Kinds as kinds
@@ -41,28 +39,27 @@ below t = and 1 kinds.ps (falls 1 kinds.ps _<_ μ-phrase-in-year t) reads.Pre
 -- what is asked and learnt of each callee, and of the reader itself below the measure t
 abbrev callees : ℕ → lts.Claims
 callees t =
-    (lead-of.Asked, lead-of.Learnt, style-by.Asked, style-by.Learnt, anchor-in-year.Asked, anchor-in-year.Learnt, below t, reads.Post, dates-by.Asked, dates-by.Learnt, act.Asked, act.Learnt)
+    (lead-of.Asked, lead-of.Learnt, anchor-in-year.Asked, anchor-in-year.Learnt, below t, reads.Post, dates-by.Asked, dates-by.Learnt, act.Asked, act.Learnt)
 
 module _ (t : ℕ) where
   -- what a phrase with no wrapper tells
   plain : (c : lts.After-anchor-in-year (callees t) (at t) reads.Post)
-      → let a = c .before .before .before .before .before .before .args in
-      Told phrases (phraseDay (named (styleBy (a .style)) (a .year))) (NoDay Form) (a .phrase .now) (c .anchor-in-year .result)
+      → let a = c .before .before .before .before .before .args in
+      Told phrases (phraseDay (named (a .style) (a .year))) (NoDay Form) (a .phrase .now) (c .anchor-in-year .result)
   plain c =
-      let style = c .before .before .before in
-      plain-told _ _ _ (style .before .lead-of .ensures .told) (rw (c .before .if1 .taken)) _
-      (rw (style .style-by .ensures) at (c .anchor-in-year .ensures))
+      let found = c .before .before .before in
+      plain-told _ _ _ (found .lead-of .ensures .told) (rw (c .before .if1 .taken)) _ (c .anchor-in-year .ensures)
 
   -- the wrapper that the phrase begins with
   begins : (c : lts.Else1 (callees t) (at t) reads.Post)
-      → let found = c .before .before .before .lead-of .result in
-      Told leadings lead Plain (c .before .before .before .before .before .args .phrase .now) (Wrapped (wrapperOf (found .number)) (found .length))
-  begins c = rw (ne-eqb _ 0 (c .if1 .left)) at (c .before .before .before .lead-of .ensures .told)
+      → let found = c .before .before .lead-of .result in
+      Told leadings lead Plain (c .before .before .before .before .args .phrase .now) (Wrapped (wrapperOf (found .number)) (found .length))
+  begins c = rw (ne-eqb _ 0 (c .if1 .left)) at (c .before .before .lead-of .ensures .told)
 
   -- what the rest behind it tells
   tells : (c : lts.After-phrase-in-year (callees t) (at t) reads.Post)
-      → let found = c .before .before .before .before .before in let a = found .before .before .args in
-      Told phrases (phraseDay (named (styleBy (a .style)) (a .year))) (NoDay Form) (drop (found .lead-of .result .length) (a .phrase .now))
+      → let found = c .before .before .before .before in let a = found .before .before .args in
+      Told phrases (phraseDay (named (a .style) (a .year))) (NoDay Form) (drop (found .lead-of .result .length) (a .phrase .now))
       (c .phrase-in-year .result)
   tells c = rw (rest _ _) at (c .phrase-in-year .ensures)
 
@@ -72,7 +69,7 @@ module _ (t : ℕ) where
       let k = dates .before .before .before .before in
       let wrapper = k .before .before in
       let day = dates .before .before .behind .given .1 in
-      rw (c .act .ensures, dates .dates-by .ensures, wrapper .before .before .style-by .ensures) (wrapped-told _ _ _ (begins wrapper) _ _ (rw day at (tells k)))
+      rw (c .act .ensures, dates .dates-by .ensures) (wrapped-told _ _ _ (begins wrapper) _ _ (rw day at (tells k)))
 
   returns-3 : lts.Need-returns-3 (callees t) (at t) reads.Post
   returns-3 c =
@@ -82,7 +79,7 @@ module _ (t : ℕ) where
 
   phrase-in-year-requires : lts.Need-phrase-in-year-requires (callees t) (at t) reads.Post
   phrase-in-year-requires c κs =
-      let found = c .before .before .before .before in
+      let found = c .before .before .before in
       let s = found .before .before .args .phrase .now in
       let n = found .lead-of .result .length in
       let now : length s ≡ t = found .before .before .pre .0 in
@@ -97,14 +94,14 @@ module _ (t : ℕ) where
       let wrapper = k .before .before in
       let style = wrapper .before .before in (
         leads _ _ _ (begins wrapper) .1,
-        rw (c .dates-by .ensures, style .style-by .ensures) (told-in-span _ _ _ (rw (c .before .before .behind .given .1) at (tells k))),
+        rw (c .dates-by .ensures) (told-in-span _ _ _ (rw (c .before .before .behind .given .1) at (tells k))),
       )
 
 pub +phrase-in-year-spec : {M : Type 1} → statement M
 +phrase-in-year-spec =
     close μ-phrase-in-year
     λ t. lts.spec (callees t) (at t) reads.Post
-    (λ c κs. search needs) (λ c κs. search needs) (λ c κs. search needs) (λ c. search needs) (λ c. search needs)
+    (λ c κs. search needs) (λ c κs. search needs) (λ c. search needs) (λ c. search needs)
     (λ c. plain t (c .before .before)) (λ c. rw (c .before .answer .given .1) at (plain t (c .before .before .before)))
     (λ c. shorter _ _ _ (begins t c) .1) (λ c. shorter _ _ _ (begins t c) .1) (λ c. search needs)
     (phrase-in-year-requires t) (λ c. search needs) (λ c. search needs)
