@@ -203,8 +203,8 @@ uint32_t qv_page_refusal(const uint8_t *page, size_t length, size_t size);
  *     qv_feast(QV_JULIAN, 13, 1225) == 2168578
  *     qv_feast(QV_GREGORIAN, 13, 1582) == QV_YEAR
  *     qv_feast(QV_GREGORIAN, 25, 1582) == QV_SPAN
- *     qv_feast(QV_OLD_EASTER, 13, 2024) == qv_day(QV_OLD_EASTER, 2024, 5, 5)
- *     qv_feast(QV_OLD_EASTER, 13, 2024) == qv_feast(QV_JULIAN, 13, 2024)
+ *     qv_feast(QV_OLD_EASTER, 13, 2024) == 2460436
+ *     qv_feast(QV_JULIAN, 13, 2024) == 2460436
  */
 uint32_t qv_feast(uint64_t style, uint64_t feast, uint64_t year);
 
@@ -215,7 +215,7 @@ uint32_t qv_feast(uint64_t style, uint64_t feast, uint64_t year);
  *     qv_day(QV_GREGORIAN, 1582, 10, 15) == 2299161
  *     qv_day(QV_GREGORIAN, 1582, 10, 14) == QV_SPAN
  *     qv_day(QV_GREGORIAN, 1582, 2, 29) == QV_DATE
- *     qv_day(QV_OLD_EASTER, 1582, 10, 15) == 2299161
+ *     qv_day(QV_OLD_EASTER, 2024, 5, 5) == 2460436
  */
 uint32_t qv_day(uint64_t style, uint64_t year, uint64_t month, uint64_t day);
 
