@@ -23,11 +23,6 @@ has-too c =
     let named = c .before .before .before .before .args .named in
     rw (c .easter-by .ensures) (both-have (named .style) (named .year) (has (c .before)))
 
-returns-2 : tie.Need-returns-2
-returns-2 c =
-    let equinox = c .before .before in
-    no-day _ _ (sym (c .enum-told .given .1) ∙ rw (has-too (equinox .before)) at (equinox .equinox .ensures))
-
 is-day : (c : tie.After-answer)
     → let easter = c .before .before .before in
     march (easter .easter-by .result) (easter .before .before .before .before .args .named .year) 21 ≡ c .answer .given .0 .0
@@ -40,6 +35,11 @@ easter-after-requires : tie.Need-easter-after-requires
 easter-after-requires c κs =
     let day = c .before .before in
     rw (c .limit-of-year .ensures) (easter-asked _ _ _ (has-too (day .before .before .before)) (is-day day))
+
+returns-2 : tie.Need-returns-2
+returns-2 c =
+    let equinox = c .before .before in
+    no-day _ _ (sym (c .enum-told .given .1) ∙ rw (has-too (equinox .before)) at (equinox .equinox .ensures))
 
 returns-3 : tie.Need-returns-3
 returns-3 c =
