@@ -84,7 +84,8 @@ weekday-refused k d n some =
 pub day-to-date-refused : (k d n : ℕ) (r : DateAnswer) → 1 ≤ n → IsDateOfDay k d r
     → (dateRefusal r ≡ n) ↔ Lowest (Holds (byNumber (λ s. spanTests (datesBy s) d) k)) n
 day-to-date-refused k d n r some h =
-    given-of-any (λ x. r ≡ NoDate x) (λ s. IsDateOf (datesBy s) d r) (dateRefusal r) (λ x. ap dateRefusal) n (λ s. spanTests (datesBy s) d) (λ s. tt) (λ s. is-date (datesBy s) r) k h
+    given-of-any (λ x. r ≡ NoDate x) (λ s. IsDateOf (datesBy s) d r) (dateRefusal r) (λ x. ap dateRefusal) n (λ s. spanTests (datesBy s) d) (λ s. tt)
+    (λ s. is-date (datesBy s) r) k h
   where
     is-date : (c : Calendar) (r : DateAnswer) → IsDateOf c d r → dateRefusal r ≡ n → ⊥
     is-date c (On y m d) h e = omega arith

@@ -18,7 +18,8 @@ ghost use mathlib.Core.Path.{_≡_};
 ghost use mathlib.Core.Bool.{true, false};
 ghost use Prim.Native.Nat.{pred, _≤_, _<_};
 ghost use Rattle.calendar.specs.Year.{served};
-ghost use Rattle.calendar.specs.Date.{monthLength, daysOfMonths, MonthOf, isDate, dayNumber, dayInCalendar, dayInYear, dayOfDate, IsDateInCalendar, IsDateInStyle, IsDateOfDay};
+ghost use Rattle.calendar.specs.Date.{monthLength, daysOfMonths, MonthOf, isDate, dayNumber, dayInCalendar, dayInYear, dayOfDate};
+ghost use Rattle.calendar.specs.Date.{IsDateInCalendar, IsDateInStyle, IsDateOfDay};
 
 // A date, or why there is none.
 pub enum DateAnswer {

@@ -37,7 +37,8 @@ abbrev pub reformYear : Calendar → ℕ → Bool
 reformYear Julian y = false
 reformYear Gregorian y = eqb y 1582
 
--- the years whose sheet and Easter are answered, by the calendar of the dates: those that are served, but for "G 1582 for the year sheet or a feast hung on Easter"
+-- the years whose sheet and Easter are answered, by the calendar that dates go by: those that are served, but for "G 1582 for the year sheet or a feast hung
+-- on Easter"
 unfoldable pub hasEaster : Calendar → ℕ → Bool
 hasEaster c y = served c y && not (reformYear c y)
 

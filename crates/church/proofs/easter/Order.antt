@@ -1,6 +1,6 @@
 -- The Easter by the J rule never comes before the Easter by the G rule of the same year.
 use mathlib.Core.Bool.{Bool, true, false, _&&_, cond, and-eq-true-iff}
-use mathlib.Core.Path.{_≡_, refl, sym, _∙_}
+use mathlib.Core.Path.{_≡_, refl}
 use Prim.Native.Nat.{ℕ, _+_, _-_, _*_, _/_, _%_, _≤_}
 use native.Mathlib.Omega.{arith}
 use lib.Dec.{eqb, ltb}
@@ -8,7 +8,7 @@ use borrow.Author.Tests.{ltb-true, ltb-false, eqb-true}
 use Rattle.calendar.proofs.year.Laws.{fourth-hundreds}
 use Rattle.church.proofs.arithmetic.Laws.{z, gregorian-closed, one-limit}
 use Rattle.church.proofs.easter.Laws.{lag, equinoxes-apart, limit-range, march-from, easter-facts}
-use Rattle.church.specs.Arithmetic.{bOf, settled, julianLimit, arithmeticLimit}
+use Rattle.church.specs.Arithmetic.{bOf, settled, arithmeticLimit}
 use Rattle.church.specs.Easter.{limit, march, easter}
 use Rattle.church.specs.Epact.{golden, hundreds}
 use Rattle.calendar.specs.declared.style.Calendar.the-variants.{Julian, Gregorian}

@@ -42,7 +42,8 @@ one-of t (NoSheet x) b h h′ = absurd h
 
 -- Any two answers that the year sheet may give are equal, in a style.
 pub one-answer-in-year : (t : NamedYear) (r r′ : SheetAnswer) → IsSheetInYear t r → IsSheetInYear t r′ → r ≡ r′
-one-answer-in-year t r r′ h h′ = both-checked (easterTests (datesBy (t .style)) (t .year)) (λ x (p : r ≡ NoSheet x) (q : r′ ≡ NoSheet x). p ∙ sym q) (one-of t r r′) h h′
+one-answer-in-year t r r′ h h′ =
+    both-checked (easterTests (datesBy (t .style)) (t .year)) (λ x (p : r ≡ NoSheet x) (q : r′ ≡ NoSheet x). p ∙ sym q) (one-of t r r′) h h′
 
 -- A sheet that is answered is its year's.
 pub answered-sheet : (t : NamedYear) (r : YearSheet) → IsSheetInYear t (Sheet r) → IsSheet (t .style) (t .year) r

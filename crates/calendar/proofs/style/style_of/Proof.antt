@@ -1,4 +1,3 @@
-use borrow.Author.Needs.{needs}
 use borrow.Author.Tests.{ne-eqb}
 use Rattle.calendar.specs.Style.{styleOf}
 use Rattle.calendar.proofs.style.style_of.Statement.{statement}

@@ -31,4 +31,8 @@ returns c =
 pub advent-of-year-spec : {M : Type 1} → statement M
 advent-of-year-spec =
     tie.close
-    (tie.spec (λ c κs. search needs) (λ c. search needs) (λ c. search needs) returns (λ c κs. search needs) (λ c κs. search needs) (λ c κs. search needs) returns-2)
+    (tie.spec
+    (λ c κs. search needs) (λ c. search needs) (λ c. search needs)
+    returns
+    (λ c κs. search needs) (λ c κs. search needs) (λ c κs. search needs)
+    returns-2)

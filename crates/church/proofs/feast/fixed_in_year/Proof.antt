@@ -23,7 +23,9 @@ added : (c : tie.Joined1-2)
 added c =
     ⊎-elim
     (λ w. rw (le-leb _ _ (w .0 .taken), ← w .1 .ensures, sym (w .2 .ensures) ∙ w .3 .taken) (w .4))
-    (λ w. ⊎-elim (λ v. rw (le-leb _ _ (v .0 .taken), ← v .1 .ensures, sym (v .2 .ensures) ∙ v .3 .left) (w .1)) (λ v. rw (lt-leb _ _ (v .left)) (w .1)) (w .0 .came))
+    (λ w.
+    ⊎-elim (λ v. rw (le-leb _ _ (v .0 .taken), ← v .1 .ensures, sym (v .2 .ensures) ∙ v .3 .left) (w .1))
+    (λ v. rw (lt-leb _ _ (v .left)) (w .1)) (w .0 .came))
     (c .if1 .came)
 
 add-day-in-year : tie.Need-add-day-in-year

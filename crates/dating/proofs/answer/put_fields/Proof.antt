@@ -15,7 +15,9 @@ put-number-requires-2 c κs =
 
 -- the number that is put behind the day is the weekday's
 weekday-put : (c : tie.After-weekday-or-zero) → c .weekday-or-zero .result ≡ weekday (c .before .before .before .args .day)
-weekday-put c = rw (c .weekday-or-zero .ensures, c .before .weekday-in-style .ensures) (its-weekday (c .before .before .before .args .style) _ (c .before .before .before .pre .1))
+weekday-put c =
+    let start = c .before .before .before in
+    rw (c .weekday-or-zero .ensures, c .before .weekday-in-style .ensures) (its-weekday (start .args .style) _ (start .pre .1))
 
 put-number-requires-3 : tie.Need-put-number-requires-3
 put-number-requires-3 c κs =

@@ -29,6 +29,8 @@ pub put-day-spec : {M : Type 1} → statement M
 put-day-spec =
     tie.close
     (tie.spec (λ c κs. search needs) (λ c. search needs)
-    (λ c κs. omega (arith, twelve-bytes (c .before .before .before .before .before .before .args .style) _ _ _ _ (its-date (c .before)), c .before .before .before .before .before .before .pre .0))
+    (λ c κs.
+    let start = c .before .before .before .before .before .before in
+    omega (arith, twelve-bytes (start .args .style) _ _ _ _ (its-date (c .before)), start .pre .0))
     (λ c. search needs) (λ c. search needs)
     (λ c. day-put _ _ _ _ _ (its-date (c .before .before .before .before)) (c .before .before .put-date .ensures)) returns-2)

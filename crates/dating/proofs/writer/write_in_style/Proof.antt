@@ -17,7 +17,8 @@ put-day-requires c κs =
 returns-2 : tie.Need-returns-2
 returns-2 c =
     let p = c .before .before in
-    written _ _ _ (p .before .before .before .before .before .before .if1 .left) _ _ (put-day-requires (p .before) (p .put-day .lifetimes) .1) (p .put-day .ensures)
+    let room = p .before .before .before .before .before .before in
+    written _ _ _ (room .if1 .left) _ _ (put-day-requires (p .before) (p .put-day .lifetimes) .1) (p .put-day .ensures)
 
 returns-3 : tie.Need-returns-3
 returns-3 c =
