@@ -1,4 +1,4 @@
-// Styles, years, dates, weekdays and distances of the two calendars. No public function has a
+// Calendars, styles, years, dates, weekdays and distances. No public function has a
 // `requires`, and the contract of each is an equation with a definition of specs/, or a relation
 // that allows one answer only.
 pub mod date;

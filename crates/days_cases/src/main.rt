@@ -207,7 +207,7 @@ fn gregorian_span_ends(style: u64) {
     ask_around(style, 5373484);
 }
 
-// The ends of one style's span in the other style, and the smallest numbers.
+// The ends of one style's span in another style, and the smallest numbers.
 fn days_of_one_style() {
     ask_date_and_weekday(JULIAN, 2299160);
     ask_date_and_weekday(JULIAN, 2299161);
@@ -407,7 +407,7 @@ fn refused_distances() {
     ask_both_distances(JULIAN, 0, 1, 1, 4, 2000, 1, 1);
 }
 
-// Each argument in turn beside a good rest: 29 February 2024 is a date in both styles.
+// Each argument in turn beside a good rest: 29 February 2024 is a date in every style.
 fn each_argument_of_day(known: u64, style: u64, year: u64, month: u64, day: u64) {
     ask_day(style, 2024, 2, 29);
     ask_day(known, year, 2, 29);

@@ -54,7 +54,7 @@ same-limit c y y′ g by =
     let a = same-arabic c y y′ g e in
     (e, a, rw (e, a))
 
--- The key depends on the limit and on the weekday of 21 March alone; the years may be of two styles, here and below.
+-- The key depends on the limit and on the weekday of 21 March alone; the years may be of two calendars, here and below.
 pub same-key : (c c′ : Calendar) (y y′ : ℕ) → limit c y ≡ limit c′ y′ → weekday (march c y 21) ≡ weekday (march c′ y′ 21)
     → key (wholly c) y ≡ key (wholly c′) y′
 same-key c c′ y y′ l w = rw (key-closed c y, key-closed c′ y′, l, w)
