@@ -13,8 +13,8 @@
  *     2  G, Gregorian    15 October 1582 (2299161) to 31 December 9999 (5373484)
  *     3  O, old Easter   15 October 1582 (2299161) to 31 December 9999 (5373484)
  *
- * O is for those who date by the new calendar and keep the old Easter: its dates, leap years and served years are those of G, and Easter,
- * with every feast that hangs on it, is the same day as in J.
+ * O is for those who date by the new calendar and keep the old Easter, as most Orthodox churches with new dates have done since 1924: its
+ * dates, leap years and served years are those of G, and Easter, with every feast that hangs on it, is the same day as in J.
  *
  * A call that answers a day answers the day or the number of a refusal, the lowest that holds. No day is below QV_FIRST_DAY, so that a
  * number below that is a refusal:

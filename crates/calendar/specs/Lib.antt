@@ -1,4 +1,4 @@
--- What a reader must believe: definitions only, each under what it says; words in quotes are the scope's.
+-- What a reader must believe: definitions only, each under what it says; words in quotes are those of the scope and of its requests.
 pub mod Range
 pub mod Refusal
 pub mod Search

@@ -50,6 +50,6 @@ abbrev pub firstYear : Calendar → ℕ
 firstYear Julian = 1
 firstYear Gregorian = 1582
 
--- the years that are served; else refusal 4: "J outside 1 to 9999; G outside 1582 to 9999"
+-- the years that are served; else refusal 4: "J outside 1 to 9999; G outside 1582 to 9999"; O "takes G's years and span"
 unfoldable pub served : Calendar → ℕ → Bool
 served c y = between (firstYear c) y 9999

@@ -14,7 +14,7 @@ use Rattle.church.proofs.arithmetic.Laws as arithmetic-laws
 pub use Rattle.church.proofs.arithmetic.Laws.{brought-by-thirties}
 use Rattle.church.proofs.column.Laws.{walked}
 use Rattle.church.proofs.easter.Laws as easter-laws
-pub use Rattle.church.proofs.easter.Laws.{firstEaster, easter-years, limit-range, equinox-weekday, key-closed, easter-in-span}
+pub use Rattle.church.proofs.easter.Laws.{firstEaster, easter-years, limit-range, equinox-weekday, key-range, key-closed, old-key-range, easter-in-span}
 use Rattle.church.proofs.easter.Order as order-laws
 use Rattle.church.proofs.epact.Laws as epact-laws
 pub use Rattle.church.proofs.epact.Laws.{epact-small}
@@ -91,11 +91,6 @@ one-luna c y d h = walked c y .once d h
 pub one-limit : (c : Calendar) (y : ℕ) → arithmeticLimit c y ≡ limit c y
 one-limit = arithmetic-laws.one-limit
 
--- In J and in G the key lies from 1 to 35, and counts from 21 March to Easter.
-pub key-range : (c : Calendar) (y : ℕ)
-    → (1 ≤ key (wholly c) y) × (key (wholly c) y ≤ 35) × (march c y 21 + key (wholly c) y ≡ easter c y)
-key-range = easter-laws.key-range
-
 -- Easter is a Sunday, later than the limit by at most seven days.
 pub easter-sunday : (c : Calendar) (y : ℕ)
     → (weekday (easter c y) ≡ sunday) × (march c y (limit c y) < easter c y) × (easter c y ≤ march c y (limit c y) + 7)
@@ -106,13 +101,9 @@ easter-sunday c y =
 -- In every style, in a year that has a sheet, Easter is a Sunday, and the key is its distance from 21 March of the calendar that the dates go by.
 pub key-counts : (s : Style) (y : ℕ) → hasEaster (datesBy s) y ≡ true
     → (weekday (easter (easterBy s) y) ≡ sunday) × (march (datesBy s) y 21 + key s y ≡ easter (easterBy s) y)
-key-counts s y h = (easter-sunday (easterBy s) y .0, easter-laws.key-counts s y (easter-laws.key-fits s y h .0))
+key-counts s y h = (easter-sunday (easterBy s) y .0, easter-laws.key-to-easter s y (easter-laws.key-fits s y h .0))
 
--- In O the key lies from 11 to 108 in the years that have a sheet.
-pub old-key-range : (y : ℕ) → hasEaster (datesBy O) y ≡ true → (11 ≤ key O y) × (key O y ≤ 108)
-old-key-range = easter-laws.old-key-range
-
--- The Easter of O is never before that of G of the same year, from 500 on and so in every year that has a sheet.
+-- The Easter of O is never before that of G of the same year, from 500 on and so in every year that has a sheet in G and O.
 pub easter-order : (y : ℕ) → 500 ≤ y → easter (easterBy G) y ≤ easter (easterBy O) y
 easter-order = order-laws.easter-order
 

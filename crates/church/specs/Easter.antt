@@ -16,7 +16,7 @@ use Rattle.calendar.specs.declared.style.Style.{Style}
 use Rattle.calendar.specs.declared.weekday.Side.the-variants.{After}
 use Rattle.calendar.specs.declared.weekday.Start.the-variants.{Uncounted}
 
--- "The limit is thirteen days after Luna I.", a day of March run on past 31
+-- "The limit is thirteen days after Luna I.", a day of March run on past 31; of O: "Its limit is the J one, counted in J's March."
 unfoldable pub limit : Calendar → ℕ → ℕ
 limit c y = luna c y + 13
 
@@ -28,7 +28,7 @@ march c y d = dayNumber c y 3 d
 unfoldable pub easter : Calendar → ℕ → ℕ
 easter c y = firstWeekday Uncounted After sunday (march c y (limit c y))
 
--- "The key is Easter's distance from 21 March": Easter by the one side of the style, and 21 March by the other
+-- "The key is Easter's distance from 21 March", of the calendar that dates go by; of O: "Easter's key then counts from 21 March G"
 unfoldable pub key : Style → ℕ → ℕ
 key s y = easter (easterBy s) y - march (datesBy s) y 21
 

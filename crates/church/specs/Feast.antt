@@ -130,7 +130,7 @@ dateExists (on d m) c y = isDate c y m d
 dateExists (onOrInLeapYears d m d′ m′) c y = cond (leap c y) (isDate c y m′ d′) (isDate c y m d)
 dateExists advent c y = true
 
--- the day number of a rule: what hangs on Easter goes by the one side of the style, and all else by the other
+-- the day number of a rule: what hangs on Easter goes by the calendar of the style's Easter, and all else by that of its dates
 abbrev pub ruleNumber : Rule → Style → ℕ → ℕ
 ruleNumber (hung z) s y = daysFrom z (easter (easterBy s) y)
 ruleNumber (on d m) s y = dayNumber (datesBy s) y m d

@@ -16,6 +16,7 @@ use Rattle.church.specs.declared.sheet.SheetAnswer.{SheetAnswer}
 use Rattle.church.specs.declared.sheet.YearSheet.{YearSheet}
 
 -- "It holds: leap or not, golden number, epact, whether it is the Arabic 25 .., two Sunday letters .., the limit .., Easter as key and as day number."
+-- of O: "Its sheet shows golden number, epact and limit of J, Sunday letters of G."
 pub record IsSheet (s : Style) (y : ℕ) (r : YearSheet) : Type 0 where
   pub its-leap : r .leap ≡ leap (datesBy s) y
   pub its-golden : r .golden ≡ golden y

@@ -42,7 +42,7 @@ pub(crate) fn limit_of_year(calendar: Calendar, year: u64) -> u64
     }
 }
 
-// Whether dates of the calendar answer the year's Easter.
+// Whether the year's Easter is answered where dates go by the calendar.
 pub(crate) fn has_easter(calendar: Calendar, year: u64) -> bool
     ensures { λ r. ⌜ r ≡ hasEaster calendar year ⌝ }
 {
@@ -53,7 +53,7 @@ pub(crate) fn has_easter(calendar: Calendar, year: u64) -> bool
     is_between(first, year, 9999)
 }
 
-// The day of 21 March, where dates of the calendar answer the year's Easter, and else 4.
+// The day of 21 March, where the year's Easter is answered if dates go by the calendar, and else 4.
 pub(crate) fn equinox(calendar: Calendar, year: u64) -> DayAnswer
     ensures { λ r. ⌜ r ≡ checked NoDay (Day (march calendar year 21)) (easterTests calendar year) ⌝ }
 {
@@ -79,15 +79,15 @@ pub(crate) fn easter_of_year(named: NamedYear) -> DayAnswer
 {
     let style = named.style;
     let year = named.year;
-    let dates = dates_by(style);
-    if !has_easter(dates, year) {
+    let date_calendar = dates_by(style);
+    if !has_easter(date_calendar, year) {
         return DayAnswer::NoDay(Refusal::Year);
     }
-    let tables = easter_by(style);
-    let answer = equinox(tables, year);
+    let easter_calendar = easter_by(style);
+    let answer = equinox(easter_calendar, year);
     // No style has a year of its dates for which the calendar of its Easter has none.
     let DayAnswer::Day(equinox) = answer else {
         return answer;
     };
-    DayAnswer::Day(easter_after(equinox, limit_of_year(tables, year)))
+    DayAnswer::Day(easter_after(equinox, limit_of_year(easter_calendar, year)))
 }

@@ -26,9 +26,9 @@ pub struct YearSheet {
     // Whether the epact is the Arabic 25.
     pub arabic: bool,
     pub letters: SundayLetters,
-    // A day of March run on past 31.
+    // A day of March, run on past 31, of the calendar that Easter goes by.
     pub limit: u64,
-    // The days from 21 March to Easter.
+    // The days from 21 March, of the calendar that dates go by, to Easter.
     pub key: u64,
     // Easter's day number.
     pub easter: u32,
@@ -50,22 +50,22 @@ pub fn sheet_in_year(named: NamedYear) -> SheetAnswer
         DayAnswer::Day(day) => day,
         DayAnswer::NoDay(refusal) => return SheetAnswer::NoSheet(refusal),
     };
-    let dates = dates_by(style);
-    let tables = easter_by(style);
-    let equinox = match equinox(dates, year) {
+    let date_calendar = dates_by(style);
+    let easter_calendar = easter_by(style);
+    let equinox = match equinox(date_calendar, year) {
         DayAnswer::Day(day) => day,
         DayAnswer::NoDay(refusal) => return SheetAnswer::NoSheet(refusal),
     };
-    let first = first_letter(dates, year, equinox);
-    let second = second_letter(dates, year, equinox);
-    let epact = epact_number(tables, year);
-    let limit = limit_of_year(tables, year);
+    let first = first_letter(date_calendar, year, equinox);
+    let second = second_letter(date_calendar, year, equinox);
+    let epact = epact_number(easter_calendar, year);
+    let limit = limit_of_year(easter_calendar, year);
     let key = (easter - equinox) as u64;
     SheetAnswer::Sheet(YearSheet {
-        leap: is_leap(dates, year),
+        leap: is_leap(date_calendar, year),
         golden: golden_number(year),
         epact,
-        arabic: is_arabic(tables, year, epact),
+        arabic: is_arabic(easter_calendar, year, epact),
         letters: SundayLetters { first, second },
         limit,
         key,

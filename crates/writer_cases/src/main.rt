@@ -130,7 +130,7 @@ fn bad_styles() {
     ask_of_bad_style(HUGE);
 }
 
-// The last day looks like a day of both spans once it is cut to 32 bits.
+// The last day looks like a day of every span once it is cut to 32 bits.
 fn ask_of_bad_days(style: u64) {
     ask(style, 0);
     ask(style, HUGE);

@@ -7,9 +7,11 @@ use Prim.Native.Nat.{ℕ}
 use lib.Dec.{T, eqb}
 use Rattle.calendar.proofs.refusal.Laws.{AllPass, rising, given, given-of}
 use Rattle.calendar.specs.Refusal.{refusalNumber, Test, _unless_, checked, Holds, Lowest}
-use Rattle.calendar.specs.Style.{styleNumber, styleOf, inStyle, byNumber}
+use Rattle.calendar.specs.Style.{styleNumber, datesBy, easterBy, wholly, styleOf, inStyle, byNumber}
 use Rattle.calendar.specs.declared.refusal.Refusal.the-variants.{Name}
 use Rattle.calendar.specs.declared.refusal.Refusal.{Refusal}
+use Rattle.calendar.specs.declared.style.Calendar.the-variants.{Julian, Gregorian}
+use Rattle.calendar.specs.declared.style.Calendar.{Calendar}
 use Rattle.calendar.specs.declared.style.Style.the-variants.{J, G, O}
 use Rattle.calendar.specs.declared.style.Style.{Style}
 use Rattle.calendar.specs.declared.style.StyleAnswer.the-variants.{Known, NoStyle}
@@ -21,6 +23,15 @@ unfolding styleOf
 by-number J = refl
 by-number G = refl
 by-number O = refl
+
+-- both sides of a style that goes wholly by one calendar
+pub whole-dates : (c : Calendar) → datesBy (wholly c) ≡ c
+whole-dates Julian = refl
+whole-dates Gregorian = refl
+
+pub whole-easter : (c : Calendar) → easterBy (wholly c) ≡ c
+whole-easter Julian = refl
+whole-easter Gregorian = refl
 
 -- what holds in each style, and where there is none, holds whatever the number
 pub by-cases {ℓ} : (P : StyleAnswer → Type ℓ) → ((s : Style) → P (Known s)) → P (NoStyle Name) → (k : ℕ) → P (styleOf k)

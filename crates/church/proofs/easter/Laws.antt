@@ -12,6 +12,7 @@ use borrow.Author.Tests.{leb-true, leb-false, le-leb, lt-leb, eqb-true, eqb-fals
 use Rattle.calendar.proofs.range.Laws.{range, in-range}
 use Rattle.calendar.proofs.refusal.Laws.{no-day, passed}
 use Rattle.calendar.proofs.span.Laws.{span-range, span-small, served-small, span-start, in-span-from}
+use Rattle.calendar.proofs.style.Laws.{whole-dates, whole-easter}
 use Rattle.calendar.proofs.weekday.Laws.{is-later}
 use Rattle.calendar.proofs.year.Laws.{closed, fourth-hundreds, new-year-closed, year-up}
 use Rattle.church.proofs.column.Laws.{luna-range}
@@ -183,8 +184,7 @@ easter-facts c y =
 -- the key of a style that goes wholly by one calendar
 whole-key : (c : Calendar) (y : ℕ) → key (wholly c) y ≡ easter c y - march c y 21
 unfolding key
-whole-key Julian y = refl
-whole-key Gregorian y = refl
+whole-key c y = rw (whole-dates c, whole-easter c)
 
 -- In J and in G the key lies from 1 to 35, and counts from 21 March to Easter.
 pub key-range : (c : Calendar) (y : ℕ)
@@ -201,14 +201,14 @@ key-closed c y =
     let m = march-from c y (limit c y) (r .0) in
     rw (whole-key c y) (omega arith)
 
--- the keys with which a style has every feast in its year
+-- keys with which a style has every feast in its year
 abbrev pub KeyFits : Style → ℕ → Type 0
 KeyFits s y = (1 ≤ key s y) × (key s y ≤ 108)
 
 -- a key from 1 on counts from 21 March to Easter
-pub key-counts : (s : Style) (y : ℕ) → 1 ≤ key s y → march (datesBy s) y 21 + key s y ≡ easter (easterBy s) y
+pub key-to-easter : (s : Style) (y : ℕ) → 1 ≤ key s y → march (datesBy s) y 21 + key s y ≡ easter (easterBy s) y
 unfolding key
-key-counts s y h = omega arith
+key-to-easter s y h = omega arith
 
 -- by how many days 21 March of J comes after that of G from the year 300 on
 abbrev pub lag : ℕ → ℕ
@@ -221,7 +221,7 @@ equinoxes-apart y h =
     omega (arith, equinox-back Julian y one, new)
 
 -- In O the key lies from 11 to 108 in the years that have a sheet.
-pub old-key-range : (y : ℕ) → hasEaster Gregorian y ≡ true → (11 ≤ key O y) × (key O y ≤ 108)
+pub old-key-range : (y : ℕ) → hasEaster (datesBy O) y ≡ true → (11 ≤ key O y) × (key O y ≤ 108)
 unfolding key
 old-key-range y h =
     let r = easter-years Gregorian y .0 h in
@@ -251,7 +251,7 @@ near-days (negsuc k) n h = omega (arith, leb→le k 62 h)
 pub hung-in-year : (s : Style) (y : ℕ) (z : ℤ) → 1 ≤ y → KeyFits s y → T (near z) → YearOf (datesBy s) (daysFrom z (easter (easterBy s) y)) y
 hung-in-year s y z one fits small =
     let e = easter (easterBy s) y in
-    let k = key-counts s y (fits .0) in
+    let k = key-to-easter s y (fits .0) in
     let d = near-days z e small in
     near-in-year (datesBy s) y (daysFrom z e) one (omega arith) (omega arith)
 

@@ -1,4 +1,4 @@
--- The Easter by the J rule never comes before the Easter by the G rule of the same year.
+-- From 500 on the Easter by the J rule never comes before the Easter by the G rule of the same year.
 use mathlib.Core.Bool.{Bool, true, false, _&&_, cond, and-eq-true-iff}
 use mathlib.Core.Path.{_≡_, refl}
 use Prim.Native.Nat.{ℕ, _+_, _-_, _*_, _/_, _%_, _≤_}

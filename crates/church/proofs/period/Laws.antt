@@ -10,10 +10,11 @@ use lib.Dec.{T, eqb}
 use borrow.Author.Tests.{eq-eqb}
 use Rattle.calendar.proofs.Claims.{leap-years-return, weekdays-return}
 use Rattle.calendar.proofs.Table.{All, none, _also_}
+use Rattle.calendar.proofs.style.Laws.{whole-dates}
 use Rattle.church.proofs.Primes.{prime}
 use Rattle.church.proofs.Returns.{multiple, least}
 use Rattle.church.proofs.arithmetic.Laws.{z, z-closed, epact-sum}
-use Rattle.church.proofs.easter.Laws.{equinox-weekday, march-21, easter-facts, key-range, key-closed, key-counts}
+use Rattle.church.proofs.easter.Laws.{equinox-weekday, march-21, easter-facts, key-range, key-closed, key-to-easter}
 use Rattle.church.proofs.epact.Laws.{golden-range}
 use Rattle.church.proofs.feast.Laws.{from-63, of-date, good, rule-good, week-long, advent-week}
 use Rattle.church.proofs.letter.Laws as letter-laws
@@ -32,7 +33,6 @@ use Rattle.church.specs.Letter.{Part, SundayLetter}
 use Rattle.church.specs.Period.{period, shorter, correction, equinoxWeekday, keyBy, SameLetters, SameFeasts, TablesReturn}
 use Rattle.calendar.specs.declared.style.Calendar.the-variants.{Julian, Gregorian}
 use Rattle.calendar.specs.declared.style.Calendar.{Calendar}
-use Rattle.calendar.specs.declared.style.Style.the-variants.{J, G}
 use Rattle.calendar.specs.declared.style.Style.{Style}
 
 -- The epact, whether it is the Arabic 25 and the limit depend on the golden number and, in G, on the hundreds by their correction alone.
@@ -54,7 +54,7 @@ same-limit c y y′ g by =
     let a = same-arabic c y y′ g e in
     (e, a, rw (e, a))
 
--- The key depends on the limit and on the weekday of 21 March alone; the years may be of two calendars, here and below.
+-- In J and in G the key depends on the limit and on the weekday of 21 March alone; the years may be of two calendars, here and below.
 pub same-key : (c c′ : Calendar) (y y′ : ℕ) → limit c y ≡ limit c′ y′ → weekday (march c y 21) ≡ weekday (march c′ y′ 21)
     → key (wholly c) y ≡ key (wholly c′) y′
 same-key c c′ y y′ l w = rw (key-closed c y, key-closed c′ y′, l, w)
@@ -87,7 +87,7 @@ module _ (s s′ : Style) (y y′ : ℕ) (both : leap (datesBy s) y ≡ leap (da
       (same-date (cond (leap c y) m′ m) (cond (leap c y) d′ d))
 
   counts′ : march (datesBy s′) y′ 21 + key s y ≡ easter (easterBy s′) y′
-  counts′ = rw one-key (key-counts s′ y′ (rw one-key at some))
+  counts′ = rw one-key (key-to-easter s′ y′ (rw one-key at some))
 
   same-advent : adventSunday (datesBy s) y - newYear (datesBy s) y ≡ adventSunday (datesBy s′) y′ - newYear (datesBy s′) y′
   unfolding march dayNumber
@@ -96,7 +96,7 @@ module _ (s s′ : Style) (y y′ : ℕ) (both : leap (datesBy s) y ≡ leap (da
       let c′ = datesBy s′ in
       let sunday = easter-facts (easterBy s) y .falls in
       let sunday′ = easter-facts (easterBy s′) y′ .falls in
-      let rest : march c y 21 % 7 ≡ march c′ y′ 21 % 7 = omega (arith, sunday, sunday′, key-counts s y some, counts′) in
+      let rest : march c y 21 % 7 ≡ march c′ y′ 21 % 7 = omega (arith, sunday, sunday′, key-to-easter s y some, counts′) in
       let spring = ap (λ b. daysOfMonths b 2) both in
       let autumn = ap (λ b. daysOfMonths b 10) both in
       omega (arith, rest, advent-week c y, week-long c y, advent-week c′ y′, week-long c′ y′)
@@ -105,7 +105,7 @@ module _ (s s′ : Style) (y y′ : ℕ) (both : leap (datesBy s) y ≡ leap (da
   unfolding good march dayNumber
   same-rule (hung k) g =
       let b = leap (datesBy s) y in
-      let from-new-year : newYear (datesBy s) y + daysOfMonths b 2 + 20 + key s y ≡ easter (easterBy s) y = key-counts s y some in
+      let from-new-year : newYear (datesBy s) y + daysOfMonths b 2 + 20 + key s y ≡ easter (easterBy s) y = key-to-easter s y some in
       let from-new-year′ : newYear (datesBy s′) y′ + daysOfMonths b 2 + 20 + key s y ≡ easter (easterBy s′) y′ = rw both counts′ in
       rw (from-63 k (easter (easterBy s) y) g, from-63 k (easter (easterBy s′) y′) g, ← from-new-year, ← from-new-year′) (omega (arith, march-21 b))
   same-rule (on d m) g = same-date m d
@@ -165,8 +165,7 @@ pub keys-return : (c : Calendar) → ReturnsAfter (period c) (key (wholly c))
 keys-return c y h = same-key c c (y + period c) y (limit-returns c y h .2) (equinox-in-period c y h)
 
 whole-feasts : (c : Calendar) (y y′ : ℕ) → leap c y ≡ leap c y′ → key (wholly c) y ≡ key (wholly c) y′ → SameFeasts (wholly c) (wholly c) y y′
-whole-feasts Julian y y′ both one-key = same-feasts J J y y′ both one-key (key-range Julian y .0)
-whole-feasts Gregorian y y′ both one-key = same-feasts G G y y′ both one-key (key-range Gregorian y .0)
+whole-feasts c y y′ both one-key = same-feasts (wholly c) (wholly c) y y′ (rw (whole-dates c) both) one-key (key-range c y .0)
 
 pub tables-return : (c : Calendar) → TablesReturn c (period c)
 tables-return c =

@@ -3,7 +3,7 @@ use mathlib.Core.Path.{_≡_, sym, _∙_, ap}
 use native.Mathlib.Omega.{arith}
 use borrow.Author.Needs.{needs}
 use Rattle.calendar.proofs.refusal.Laws.{no-day, passed-day, refused-by}
-use Rattle.church.proofs.easter.Laws.{key-fits, key-counts}
+use Rattle.church.proofs.easter.Laws.{key-fits, key-to-easter}
 use Rattle.calendar.specs.Style.{datesBy, easterBy}
 use Rattle.church.specs.Easter.{march, easter, key, hasEaster}
 use Rattle.church.specs.declared.sheet.SheetAnswer.the-variants.{NoSheet}
@@ -52,7 +52,7 @@ sub-key c =
     let named = day .before .before .before .args .named in
     let e = is-easter day in
     rw (← e .1, ← is-equinox equinox, dates .dates-by .ensures)
-    (omega (arith, key-counts (named .style) (named .year) (key-fits (named .style) (named .year) (e .0) .0)))
+    (omega (arith, key-to-easter (named .style) (named .year) (key-fits (named .style) (named .year) (e .0) .0)))
 
 returns-3 : tie.Need-returns-3
 unfolding key
