@@ -15,14 +15,14 @@ pub const INPUT: usize = 16000;
 pub const OUTPUT: usize = 65536;
 
 // How many bytes are written to the output, and how many are kept of the line that is still open.
-#[derive(Drop)]
+#[derive(Clone, Copy)]
 pub struct Progress {
     pub written: usize,
     pub kept: usize,
 }
 
 // How many bytes are written to the output, and where the line that is still open begins.
-#[derive(Drop)]
+#[derive(Clone, Copy)]
 struct Ended {
     written: usize,
     start: usize,

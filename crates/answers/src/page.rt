@@ -9,7 +9,7 @@ use dating::line::number_of_line;
 use places::number::put_number;
 
 // The number of lines of a page, or why it is refused.
-#[derive(Drop)]
+#[derive(Clone, Copy)]
 pub enum PageAnswer {
     Lines(usize),
     NoPage(Refusal),

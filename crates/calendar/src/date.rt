@@ -11,7 +11,7 @@ use crate::style::{Calendar, Style, StyleAnswer, dates_by, style_of};
 use crate::year::{NamedYear, is_leap, is_served, new_year, year_at};
 
 // A date, or why there is none.
-#[derive(Drop)]
+#[derive(Clone, Copy)]
 pub enum DateAnswer {
     On { year: u64, month: u64, day: u64 },
     NoDate(Refusal),

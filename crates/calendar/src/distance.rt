@@ -9,7 +9,7 @@ use crate::refusal::{Refusal, refusal_number};
 use crate::span::DayAnswer;
 
 // A distance in days, or why there is none.
-#[derive(Drop)]
+#[derive(Clone, Copy)]
 pub enum DistanceAnswer {
     Days(i32),
     NoDistance(Refusal),

@@ -7,7 +7,7 @@ use crate::refusal::{Refusal, refusal_number};
 use crate::style::Calendar;
 
 // A day, or why there is none.
-#[derive(Drop)]
+#[derive(Clone, Copy)]
 pub enum DayAnswer {
     Day(u32),
     NoDay(Refusal),

@@ -5,14 +5,14 @@ ghost use Rattle.calendar.specs.Style.{style_letter, dates_by, easter_by, style_
 use crate::refusal::Refusal;
 
 // A calendar.
-#[derive(Drop)]
+#[derive(Clone, Copy)]
 pub enum Calendar {
     Julian,
     Gregorian,
 }
 
 // A style of dating.
-#[derive(Drop)]
+#[derive(Clone, Copy)]
 pub enum Style {
     // The Julian calendar.
     J,
@@ -23,7 +23,7 @@ pub enum Style {
 }
 
 // A style, or why there is none.
-#[derive(Drop)]
+#[derive(Clone, Copy)]
 pub enum StyleAnswer {
     Known(Style),
     NoStyle(Refusal),

@@ -9,7 +9,7 @@ use crate::span::is_in_span;
 use crate::style::{Style, StyleAnswer, dates_by, style_of};
 
 // A weekday, or why there is none.
-#[derive(Drop)]
+#[derive(Clone, Copy)]
 pub enum WeekdayAnswer {
     Weekday(u32),
     NoWeekday(Refusal),
@@ -56,14 +56,14 @@ pub fn weekday_or_zero(answer: WeekdayAnswer) -> u32
 }
 
 // The side of a day on which a weekday is looked for.
-#[derive(Drop)]
+#[derive(Clone, Copy)]
 pub enum Side {
     After,
     Before,
 }
 
 // Whether the day from which a weekday is looked for counts.
-#[derive(Drop)]
+#[derive(Clone, Copy)]
 pub enum Start {
     Counted,
     Uncounted,

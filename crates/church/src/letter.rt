@@ -7,7 +7,7 @@ use calendar::style::Calendar;
 use calendar::year::is_leap;
 
 // The bytes of the letters up to 28 February and from 1 March.
-#[derive(Drop)]
+#[derive(Clone, Copy)]
 pub struct SundayLetters {
     pub first: u8,
     pub second: u8,

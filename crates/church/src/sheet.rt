@@ -10,7 +10,7 @@ use calendar::style::{StyleAnswer, dates_by, easter_by, style_of};
 use calendar::year::{NamedYear, is_leap};
 
 // What the church's tables tell of a year.
-#[derive(Drop)]
+#[derive(Clone, Copy)]
 pub struct YearSheet {
     pub leap: bool,
     pub golden: u64,
@@ -27,7 +27,7 @@ pub struct YearSheet {
 }
 
 // A year's sheet, or why there is none.
-#[derive(Drop)]
+#[derive(Clone, Copy)]
 pub enum SheetAnswer {
     Sheet(YearSheet),
     NoSheet(Refusal),

@@ -1,7 +1,7 @@
 // The call that a line names.
 ghost use Rattle.std.specs.Prelude.{◌≤◌, length};
 
-#[derive(Drop)]
+#[derive(Clone, Copy)]
 pub(crate) enum Call {
     Sheet { style: u64, year: u64 },
     Feast { style: u64, feast: u64, year: u64 },
@@ -10,14 +10,14 @@ pub(crate) enum Call {
 }
 
 // What the digits of a field say.
-#[derive(Drop)]
+#[derive(Clone, Copy)]
 enum Number {
     Value(u64),
     NoNumber,
 }
 
 // What two fields say.
-#[derive(Drop)]
+#[derive(Clone, Copy)]
 enum Pair {
     Values(u64, u64),
     NoPair,

@@ -6,6 +6,8 @@
 //   year S Y     the sheet, then the days of the feasts 1 to 48
 // What is refused is answered by the refusal's number, and a line that is no such call by `no such
 // call`. Of a longer line the first 80 bytes are kept, and no call has so many.
+#![tactic(auto)]
+
 mod answer;
 mod call;
 
@@ -16,7 +18,7 @@ use libc::{STDERR_FILENO, STDIN_FILENO};
 const LINE: usize = 80;
 
 // Where the reading stands.
-#[derive(Drop)]
+#[derive(Clone, Copy)]
 enum Reading {
     // The present line has this many bytes kept.
     Open(usize),

@@ -1,5 +1,7 @@
 // The month column walked in every year that has a sheet, and its limit held against the sheet's,
 // which the library finds by arithmetic.
+#![tactic(auto)]
+
 mod column;
 
 use calendar::style::{Style, easter_by};
@@ -11,7 +13,7 @@ use std::num::wrapping_add_u64;
 
 // How many years have a sheet, how many days of the column were walked in them, and how many limits
 // of the column are the sheet's.
-#[derive(Drop)]
+#[derive(Clone, Copy)]
 struct Tally {
     years: u64,
     days: u64,

@@ -1,5 +1,7 @@
 // Reads dating lines from standard input and writes one answer a line to standard output. What turns
 // bytes into answers is in the library; this only moves bytes.
+#![tactic(auto)]
+
 ghost use Rattle.std.specs.Prelude.{◌≤◌, length};
 
 use answers::block::{INPUT, OUTPUT, answer_block, answer_last};

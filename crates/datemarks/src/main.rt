@@ -1,5 +1,7 @@
 // Reads one transcript from standard input and writes what is told of its marks to standard output.
 // What finds and answers them is in the library; this only moves bytes.
+#![tactic(auto)]
+
 ghost use Rattle.std.specs.Prelude.{◌≤◌, length};
 ghost use Rattle.datemarks.specs.Reading.{TakenInside};
 
@@ -10,7 +12,7 @@ use mark_answers::transcript::{OUTPUT, answer_marks};
 const INPUT: usize = 65537;
 
 // How many bytes of the input are taken, or none where it could not be read.
-#[derive(Drop)]
+#[derive(Clone, Copy)]
 enum Taken {
     Bytes(usize),
     NotRead,

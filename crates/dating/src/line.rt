@@ -14,14 +14,14 @@ use words::numeral::{four_digits, number_of};
 use words::text::behind_last;
 
 // The length of a line's phrase, and the year with its style that stand behind it, or none.
-#[derive(Drop)]
+#[derive(Clone, Copy)]
 enum Ending {
     At(usize, NamedYear),
     NoEnding,
 }
 
 // What a line is read as: its style, its day and the length of its phrase; or why it is refused.
-#[derive(Drop)]
+#[derive(Clone, Copy)]
 pub(crate) enum Reading {
     Dated {
         style: Style,

@@ -5,7 +5,7 @@ use crate::line::{Reading, reading_of_line};
 use words::text::behind_last;
 
 // Where a part of a line begins and where it ends.
-#[derive(Drop)]
+#[derive(Clone, Copy)]
 pub struct Place {
     pub start: usize,
     pub end: usize,

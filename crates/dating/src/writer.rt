@@ -13,7 +13,7 @@ use calendar::style::{Style, StyleAnswer, dates_by, style_letter, style_of};
 use calendar::year::NamedYear;
 
 // The number of bytes written, or why there are none.
-#[derive(Drop)]
+#[derive(Clone, Copy)]
 pub enum WriteAnswer {
     Bytes(usize),
     NoBytes(Refusal),

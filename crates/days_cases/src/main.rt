@@ -2,6 +2,8 @@
 // answer: the ends of the spans and their neighbours, leap days, refusals, and numbers up to
 // 2^64 - 1. A day or its refusal is one number; a weekday or a distance is two, the refusal or 0
 // and the value or 0; a date that is refused is the refusal's number alone.
+#![tactic(auto)]
+
 use calendar::date::{DateAnswer, date_of_day, day_of_date};
 use calendar::distance::{distance_of_dates, distance_or_zero, distance_refusal};
 use calendar::refusal::refusal_number;

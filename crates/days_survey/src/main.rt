@@ -1,5 +1,7 @@
 // Every day of each style's span, walked in order with a date and a weekday of the program's own
 // counting, and held against day to date, date to day and weekday.
+#![tactic(auto)]
+
 use calendar::date::{DateAnswer, date_of_day, day_of_date};
 use calendar::span::DayAnswer;
 use calendar::weekday::{WeekdayAnswer, weekday_of_day};
@@ -12,7 +14,7 @@ const GREGORIAN: u64 = 2;
 const OLD_EASTER: u64 = 3;
 
 // A date and its weekday, reached by adding one day at a time.
-#[derive(Drop)]
+#[derive(Clone, Copy)]
 struct Walked {
     year: u64,
     month: u64,
@@ -30,7 +32,7 @@ fn walked_to(year: u64, month: u64, day: u64, weekday: u64) -> Walked {
 }
 
 // How many days were walked, how many agree with each call, and the date that comes next.
-#[derive(Drop)]
+#[derive(Clone, Copy)]
 struct Tally {
     days: u64,
     dates: u64,

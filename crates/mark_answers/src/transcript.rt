@@ -11,7 +11,7 @@ use marks::utf8::is_utf8;
 pub const OUTPUT: usize = 65536;
 
 // How many bytes are written, and how many marks they tell.
-#[derive(Drop)]
+#[derive(Clone, Copy)]
 pub struct Told {
     pub written: usize,
     pub marks: usize,

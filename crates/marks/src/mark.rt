@@ -4,14 +4,14 @@ ghost use Rattle.marks.specs.Mark.{IsFirstMark};
 ghost use Rattle.marks.specs.Steps.{two_at};
 
 // Where a mark's text begins, and where it ends.
-#[derive(Drop)]
+#[derive(Clone, Copy)]
 pub struct Mark {
     pub start: usize,
     pub end: usize,
 }
 
 // The first mark of a text, or none.
-#[derive(Drop)]
+#[derive(Clone, Copy)]
 pub enum FirstMark {
     At(Mark),
     NoMark,

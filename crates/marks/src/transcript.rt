@@ -11,14 +11,14 @@ use dating::line::number_of_line;
 use places::number::put_number;
 
 // The number of marks, or why they are refused.
-#[derive(Drop)]
+#[derive(Clone, Copy)]
 pub enum MarksAnswer {
     Marks(usize),
     NoMarks(Refusal),
 }
 
 // The first mark of a text: where it begins and ends, and how many characters begin before these places; or none.
-#[derive(Drop)]
+#[derive(Clone, Copy)]
 pub enum NextMark {
     Next {
         start: usize,

@@ -1,5 +1,7 @@
 // The calls from C, and nothing else. Each takes any numbers and any bytes; its contract fixes the one
 // number that it answers, and every byte of the places that it is lent.
+#![tactic(auto)]
+
 ghost use Rattle.std.specs.Prelude.{◌≡◌, length};
 ghost use Rattle.answers.specs.Page.{page_answer, FillsPage, lines_or_zero, page_refusal};
 ghost use Rattle.calendar.specs.Date.{day_of_date};

@@ -8,7 +8,7 @@ use crate::text::{four_at, pack8};
 use calendar::weekday::{Side, Start};
 
 // What stands before a phrase and moves its day, as the definitions have it; the code goes by numbers.
-#[derive(Drop)]
+#[derive(Clone, Copy)]
 pub enum Wrapper {
     Eve,
     Morrow,
@@ -18,14 +18,14 @@ pub enum Wrapper {
 }
 
 // The wrapper at the start of a phrase and the length of its words, or none, as the definitions have it.
-#[derive(Drop)]
+#[derive(Clone, Copy)]
 pub enum Lead {
     Wrapped(Wrapper, usize),
     Plain,
 }
 
 // The number of a wrapper and the length of its words; 0 and 0 for none.
-#[derive(Drop)]
+#[derive(Clone, Copy)]
 pub struct Found {
     pub number: u64,
     pub length: usize,

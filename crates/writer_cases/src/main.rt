@@ -1,6 +1,8 @@
 // Calls of the writer, each printed with its arguments, which are a style, a day and the length of the
 // lent buffer: then the number of bytes or the refusal's number, and then the whole buffer, which
 // held `#` before, so that it is seen which bytes are changed.
+#![tactic(auto)]
+
 use calendar::refusal::refusal_number;
 use dating::writer::{WriteAnswer, write_date};
 use libc::STDOUT_FILENO;
