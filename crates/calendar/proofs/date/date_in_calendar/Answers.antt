@@ -1,7 +1,7 @@
 use mathlib.Core.Bool.{true}
 use mathlib.Core.Path.{◌≡◌}
 use native.Mathlib.Omega.{arith}
-use Rattle.calendar.proofs.Tested.{failed, held}
+use Rattle.calendar.proofs.Tested.{held}
 use Rattle.calendar.proofs.date.Dates.{in_year, found}
 use Rattle.calendar.proofs.date.Laws.{has_day, day_date}
 use Rattle.calendar.proofs.span.Laws.{span_small, served_small, year_served_lem}

@@ -1,0 +1,42 @@
+use mathlib.Core.Bool.{true}
+use mathlib.Core.Path.{◌≡◌, sym, ◌∙◌}
+use Prim.Native.Nat.{◌+◌, ◌-◌, ◌≤◌}
+use native.Mathlib.Omega.{arith}
+use lib.ListN.{get_or}
+use Rattle.calendar.proofs.refusal.Laws.{passed_day}
+use Rattle.church.proofs.easter.Laws.{easter_small}
+use Rattle.church.proofs.feast.Laws.{from_easter, hung_day, hung_day_lem, from_easter_small}
+use Rattle.calendar.specs.Span.{earliest, latest, within}
+use Rattle.calendar.specs.Style.{dates_by, easter_by}
+use Rattle.church.specs.Easter.{easter, has_easter}
+use Rattle.church.specs.Feast.{rule, rule_day}
+use Rattle.church.proofs.feast.hung_on_easter.Goals as goal
+use Rattle.church.proofs.feast.hung_on_easter.Goals.{In-Day, Start}
+
+hung : (c : Start)
+    → rule_day c.args.named (rule c.args.feast)
+    ≡ hung_day c.args.named (easter (easter_by c.args.named.style) c.args.named.year + get_or from_easter (c.args.feast - 1) 0 - 63)
+hung c =
+    let i = c.args.feast - 1 in
+    let f : i + 1 ≡ c.args.feast = omega (arith, c.requires) in
+    rw f at (hung_day_lem c.args.named i (omega (arith, c.requires)))
+
+is_day : (c : In-Day)
+    → (has_easter (dates_by c.args.named.style) c.args.named.year ≡ true)
+    × (easter (easter_by c.args.named.style) c.args.named.year ≡ c.in-Day.easter)
+is_day c = passed_day _ _ _ _ (sym c.easter_of_year-answer.ensures ∙ c.in-Day.is)
+
+sizes : (c : In-Day) → (earliest ≤ c.in-Day.easter) × (c.in-Day.easter ≤ latest)
+sizes c = rw (← (is_day c).1) (easter_small c.args.named.style _ (is_day c).0)
+
+small : (c : Start) → get_or from_easter (c.args.feast - 1) 0 ≤ 123
+small c = from_easter_small (c.args.feast - 1) (omega arith)
+
+pub overflow_sub-easter : goal.overflow_sub-easter
+overflow_sub-easter c = omega (arith, sizes (goal.at.overflow_sub-easter c).In-Day)
+
+pub returns : goal.returns
+unfolding within
+returns c =
+    let day = is_day (goal.at.returns c).In-Day in
+    rw (hung (goal.at.returns c).Start, day.0, day.1, ← c.dates_by.ensures) c.day_within.ensures
