@@ -1,5 +1,5 @@
 -- Words of 4 to 12 bytes by their slots: what a slot holds tells the one word that may have it, byte by byte.
-use mathlib.Core.Bool.{Bool, true, false, ◌&&◌, cond, not, and-eq-true_iff}
+use mathlib.Core.Bool.{Bool, true, false, ◌&&◌, cond, and-eq-true_iff}
 use mathlib.Core.List.{List, [], ◌∷◌, ◌++◌}
 use mathlib.Core.Logic.{◌⊎◌, inl, inr}
 use mathlib.Core.Path.{◌≡◌, refl, sym, ◌∙◌, ap}
@@ -9,7 +9,7 @@ use native.Mathlib.Omega.{arith}
 use lib.Dec.{T, eqb}
 use lib.ListN.{length, take, drop, get_or, take-append-drop, get_or-append, get_or-eq_default}
 use lib.Seq.{length-take-le, get_or-take, ext_get_or}
-use borrow.Author.Tests.{eqb-true, eq-eqb, ne_eqb, not-true}
+use borrow.Author.Tests.{eqb-true, eq-eqb, ne_eqb}
 use Rattle.calendar.proofs.Each.{each, is_true, T-both}
 use Rattle.calendar.proofs.Tested.{held as passed}
 use Rattle.calendar.proofs.range.Laws.{range}
@@ -159,7 +159,7 @@ module _ (slot_of : List ℕ → ℕ) (spelled : ℕ → List ℕ) (n low : ℕ)
       (ho : o ≡ outer_in slot_of spelled n i) (hm : m ≡ inner_in slot_of spelled n i)
       {r : Bool} (test : r ≡ (eqb (outer_of s k) o && eqb (inner_of s k) (m % 1099511627776))) where
     -- a word that passes the comparison stands at the start
-    pub is_it : not r ≡ false
+    pub is_it : r ≡ true
         → ((1 ≤ m / 1099511627776) × (m / 1099511627776 ≤ n)) × (k ≡ length (spelled (m / 1099511627776)))
         × (spelled (m / 1099511627776) ++ drop k s ≡ s)
     is_it p =
@@ -185,7 +185,7 @@ module _ (slot_of : List ℕ → ℕ) (spelled : ℕ → List ℕ) (n low : ℕ)
         ]
 
     -- and one that fails does not
-    pub not_it : not r ≡ true → (x : ℕ) → (1 ≤ x) × (x ≤ n) → i ≡ slot_of (spelled x) → k ≡ length (spelled x)
+    pub not_it : r ≡ false → (x : ℕ) → (1 ≤ x) × (x ≤ n) → i ≡ slot_of (spelled x) → k ≡ length (spelled x)
         → (t : List ℕ) → spelled x ++ t ≡ s → ⊥
     not_it p x good ei ek t e =
         let w = spelled x in
@@ -196,4 +196,4 @@ module _ (slot_of : List ℕ → ℕ) (spelled : ℕ → List ℕ) (n low : ℕ)
         let is_o = ho ∙ ap (outer_in slot_of spelled n) ei ∙ holds_it x good (outer_for spelled) in
         let eo : outer_of s k ≡ o = rw ek (omega (arith, same 0 (omega arith), same (length w - 4) (omega arith))) in
         let em : inner_of s k ≡ m % 1099511627776 = rw ek (omega (arith, same ((length w - 4) / 2) (omega arith))) in
-        no_false (sym (test ∙ rw (eq-eqb _ _ eo, eq-eqb _ _ em)) ∙ not-true r p)
+        no_false (sym (test ∙ rw (eq-eqb _ _ eo, eq-eqb _ _ em)) ∙ p)

@@ -1,5 +1,5 @@
 -- Feast words: each is of letters and has its slot alone.
-use mathlib.Core.Bool.{Bool, true, false, ◌&&◌, not}
+use mathlib.Core.Bool.{Bool, true, false, ◌&&◌}
 use mathlib.Core.List.{List, [], ◌∷◌, append-nil}
 use mathlib.Core.Path.{◌≡◌, refl, sym, ◌∙◌, ap}
 use Prim.Native.Nat.{ℕ, suc, ◌/◌, ◌%◌, ◌<◌, ◌≤◌}
@@ -57,13 +57,13 @@ no_length s h = unproduced (λ n g e. h (rw e at (feast_length n g.0 g.1))) refl
 module _ (s : List ℕ) (bytes : Bytes s) (long : (4 ≤ length s) × (length s ≤ 12)) {o m : ℕ}
     (ho : o ≡ outer_in feast_slot feast_word 48 (feast_slot s)) (hm : m ≡ inner_in feast_slot feast_word 48 (feast_slot s))
     {r : Bool} (test : r ≡ (eqb (outer_of s (length s)) o && eqb (inner_of s (length s)) (m % 1099511627776))) where
-  pub other_word : not r ≡ true → Told feast_words (λ n. n) 0 s 0
+  pub other_word : r ≡ false → Told feast_words (λ n. n) 0 s 0
   other_word p =
       unproduced (λ n g e.
       not_it feast_slot feast_word 48 97 all_worded bytes (feast_slot s) (long.0, long.1, omega arith) ho hm test p n g
       (ap feast_slot (sym e)) (ap length (sym e)) [] (append-nil (feast_word n) ∙ e)) refl
 
-  pub this_word : not r ≡ false → Told feast_words (λ n. n) 0 s (m / 1099511627776)
+  pub this_word : r ≡ true → Told feast_words (λ n. n) 0 s (m / 1099511627776)
   this_word p =
       let k = is_it feast_slot feast_word 48 97 all_worded bytes (feast_slot s) (long.0, long.1, omega arith) ho hm test p in
       produced (m / 1099511627776) k.0 (rw (drop-length s, append-nil) at k.2) refl
