@@ -1,12 +1,10 @@
-use mathlib.Core.Logic.{◌⊎◌, inl, inr, ⊎_elim}
-use mathlib.Core.Path.{◌≡◌, refl, sym, ◌∙◌, ap}
+use mathlib.Core.Logic.{◌⊎◌, inl, inr}
+use mathlib.Core.Path.{◌≡◌, refl, sym, ◌∙◌}
 use Prim.Native.Nat.{ℕ, ◌+◌, ◌-◌, ◌/◌, ◌%◌}
 use native.Mathlib.Omega.{arith}
-use borrow.Author.Rules.{rules}
 use borrow.Author.Tests.{lt-ltb, le-ltb}
 use Rattle.calendar.proofs.span.Laws.{span_small}
 use Rattle.words.proofs.wrapper.Laws.{number_of, its_number}
-use Rattle.calendar.specs.Span.{within}
 use Rattle.calendar.specs.Weekday.{first_weekday}
 use Rattle.words.specs.Wrapper.{wrapper_of, GoodWrapper}
 use Rattle.dating.specs.Act.{moved}
@@ -15,8 +13,8 @@ use Rattle.calendar.specs.declared.weekday.Side.TheVariants.{After, Before}
 use Rattle.calendar.specs.declared.weekday.Start.TheVariants.{Counted, Uncounted}
 use Rattle.words.specs.declared.wrapper.Wrapper.TheVariants.{Eve, Morrow, Octave, First}
 use Rattle.words.specs.declared.wrapper.Wrapper.{Wrapper}
-use Rattle.dating.proofs.act.act.Statement.{statement}
-use Rattle.dating.proofs.act.act.Tie as tie
+use Rattle.dating.proofs.act.act.Goals as goal
+use Rattle.dating.proofs.act.act.Goals.{After-first_weekday-found, After-side_of, After-start_of, Joined-told-eq0, Joined-told-eq0-2, else-told-eq0, else-told-eq0-2, then-told-eq0, then-told-eq0-2}
 
 -- what a wrapper's number k makes of a day: so many days are added, or a weekday is looked for
 abbrev ActsBy : Wrapper → ℕ → ℕ → Type 0
@@ -44,30 +42,27 @@ acts_by (First Counted Before d) g n =
     let weekday : (d + 24) % 8 ≡ d = omega (arith, g) in
     inr (λ z. omega (arith, g), rw (le-ltb (d + 24) 16 (omega arith), kind, weekday))
 
-weekday_told : (c : tie.Joined1) → (c.before.args.number % 8 ≡ 0 → ⊥) → c.if1.weekday ≡ c.before.args.number % 8
-weekday_told c some = ⊎_elim (λ w. absurd (some w.0.taken)) (λ w. w.1) c.if1.branch
+weekday_told : (c : Joined-told-eq0) → (c.args.number % 8 ≡ 0 → ⊥) → c.if-told-eq0.weekday ≡ c.args.number % 8
+weekday_told c some = elim c.if-told-eq0.branch [ then-told-eq0 w ↦ absurd (some w.if-told-eq0.true) | else-told-eq0 w ↦ w.weekday-is ]
 
-its_answer : (c : tie.Joined2)
-    → let a = c.before.before.before.before.before.args in
-    c.if2.answer ≡ moved (wrapper_of a.number) a.day
+its_answer : (c : Joined-told-eq0-2)
+    → let a = c.args in
+    c.if-told-eq0-2.answer ≡ moved (wrapper_of a.number) a.day
 its_answer c =
     let found = c.before in
     let side = found.before in
     let start = side.before in
-    let a = start.before.before.args in
-    let good = start.before.before.requires.0 in
+    let a = start.args in
+    let good = start.requires.0 in
     elim (rw (its_number a.number) at (acts_by (wrapper_of a.number) good a.day)) [
-      | inl days ↦ ⊎_elim (λ w. w.1 ∙ sym days.1) (λ w. absurd (w.0.left days.0)) c.if2.branch
+      | inl days ↦ elim c.if-told-eq0-2.branch [ then-told-eq0-2 w ↦ w.answer-is ∙ sym days.1 | else-told-eq0-2 w ↦ absurd (w.if-told-eq0-2.false days.0) ]
       | inr search ↦
-          ⊎_elim (λ w. absurd (search.0 w.0.taken))
-          (λ w. w.1 ∙ found.first-weekday.ensures
-          ∙ rw (start.start_of_lem.ensures, side.side-of.ensures, weekday_told start.before search.0) (sym search.1)) c.if2.branch
+          elim c.if-told-eq0-2.branch [
+            | then-told-eq0-2 w ↦ absurd (search.0 w.if-told-eq0-2.true)
+            | else-told-eq0-2 w ↦ w.answer-is ∙ found.first_weekday-found.ensures
+                ∙ rw (start.start_of.ensures, side.side_of.ensures, weekday_told start.before search.0) (sym search.1)
+          ]
     ]
 
-pub act-spec : {M : Type 1} → statement M
-act-spec =
-    tie.close
-    (tie.spec
-    (λ c κs. search rules) (λ c κs. search rules) (λ c κs. search rules) (λ c. search rules)
-    (λ c. omega (arith, span_small _ _ c.before.before.before.before.requires.1)) (λ c κs. search rules)
-    (λ c. c.day-within.ensures ∙ ap (within c.before.before.before.before.before.before.args.calendar) (its_answer c.before)))
+pub overflow_sub-moved : goal.overflow_sub-moved
+overflow_sub-moved c = omega (arith, span_small _ _ c.requires.1)

@@ -1,0 +1,25 @@
+use native.Mathlib.Omega.{arith}
+use Rattle.dating.proofs.line.Laws.{two_bytes, reading}
+use Rattle.dating.specs.Line.{IsDayOfLine}
+use Rattle.calendar.specs.declared.span.DayAnswer.TheVariants.{Day}
+use Rattle.dating.proofs.line.reading_of_line.Goals as goal
+use Rattle.dating.proofs.line.reading_of_line.Goals.{In-Day}
+
+told : (c : In-Day) → IsDayOfLine c.args.line.now (Day c.in-Day.day)
+told c = rw c.in-Day.is at c.day_of_line.ensures
+
+pub overflow_sub-length : goal.overflow_sub-length
+overflow_sub-length c = omega (arith, two_bytes _ _ (told (goal.at.overflow_sub-length c).In-Day))
+
+pub bounds-line-length : goal.bounds-line-length
+bounds-line-length c = omega (arith, two_bytes _ _ (told (goal.at.bounds-line-length c).In-Day))
+
+pub overflow_sub-end : goal.overflow_sub-end
+overflow_sub-end c = two_bytes _ _ (told (goal.at.overflow_sub-end c).In-Day)
+
+pub overflow_sub-phrase : goal.overflow_sub-phrase
+overflow_sub-phrase c = (reading _ _ (told (goal.at.overflow_sub-phrase c).In-Day) _ c.behind_last-phrase.ensures).0
+
+pub returns-in-Day : goal.returns-in-Day
+returns-in-Day c =
+    rw c.style_of_letter-style.ensures (reading _ _ (told (goal.at.returns-in-Day c).In-Day) _ c.behind_last-phrase.ensures).1
