@@ -13,7 +13,7 @@ use lib.Dec.{eqb, ltb}
 use lib.ListN.{length, take, drop, get_or, length-drop}
 use lib.Seq.{length-take-le}
 use borrow.Author.Tests.{eqb-true}
-use Rattle.calendar.proofs.Each.{each, below, is_true}
+use Rattle.calendar.proofs.Each.{below, is_true}
 use Rattle.words.proofs.text.Laws.{either}
 use Rattle.answers.proofs.feed.Laws.{before_feed, before_eight, feeds_eight, feed_before, bytes_at}
 use Rattle.dating.specs.Answer.{line_feed}
