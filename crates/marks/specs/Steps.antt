@@ -1,5 +1,5 @@
 -- What the private functions answer. No public promise is stated by these.
-use Rattle.std.specs.Prelude.{cond, List, [], ◌++◌, ◌≡◌, ℕ, ◌*◌, ◌≤◌, eqb, ltb, length}
+use Rattle.std.specs.Prelude.{cond, List, ◌++◌, ◌≡◌, ℕ, ◌*◌, ◌≤◌, eqb, ltb, length}
 use Prim.Native.Char.{code}
 use Rattle.std.proofs.lemmas.List.Edits.{sets}
 use Rattle.marks.specs.Mark.{two, AreMarks}

@@ -1,5 +1,5 @@
 -- All marks of a text: in order, apart from each other, and mark by mark.
-use mathlib.Core.Bool.{true, not}
+use mathlib.Core.Bool.{true}
 use mathlib.Core.List.{List, [], ◌∷◌, ◌++◌, append-nil}
 use mathlib.Core.Logic.{◌↔◌, ◌⊎◌, inl, inr, ⊎_elim}
 use mathlib.Core.Path.{◌≡◌, refl, sym, ◌∙◌, ap, ap₂}
@@ -81,6 +81,7 @@ one_end {s} {m} {o} h k e =
 
 -- ---- lists of marks that rise
 rise_low : (i : ℕ) (ms : List Mark) (m : Mark) → RiseFrom i ms → In m ms → i ≤ m.start
+rise_low i [] m r h = absurd h
 rise_low i (x ∷ ms) m r (inl e) = rw e r.0
 rise_low i (x ∷ ms) m r (inr h) = let low = rise_low (suc x.start) ms m r.1 h in omega (arith, r.0)
 
