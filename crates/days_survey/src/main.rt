@@ -5,7 +5,6 @@
 use calendar::date::{DateAnswer, date_of_day, day_of_date};
 use calendar::span::DayAnswer;
 use calendar::weekday::{WeekdayAnswer, weekday_of_day};
-use libc::STDOUT_FILENO;
 
 const JULIAN: u64 = 1;
 
@@ -145,51 +144,55 @@ fn survey(style: u64, first: u64, last: u64, start: Walked) -> Tally {
     tally
 }
 
-fn text(bytes: &[u8]) {
-    io::write_all(STDOUT_FILENO, bytes);
+fn text(rt: &impl Print, bytes: &[u8]) {
+    let _ = rt.write_all(bytes);
 }
 
-fn number(n: u64) {
-    io::print_decimal(STDOUT_FILENO, n);
+fn number(rt: &impl Print, n: u64) {
+    let _ = rt.print(n);
 }
 
-fn print_counts(tally: Tally) {
-    number(tally.days);
-    text(b" days, ");
-    number(tally.dates);
-    text(b" dates, ");
-    number(tally.days_of_dates);
-    text(b" days of dates, ");
-    number(tally.weekdays);
-    text(b" weekdays\n");
+fn print_counts(rt: &impl Print, tally: Tally) {
+    number(rt, tally.days);
+    text(rt, b" days, ");
+    number(rt, tally.dates);
+    text(rt, b" dates, ");
+    number(rt, tally.days_of_dates);
+    text(rt, b" days of dates, ");
+    number(rt, tally.weekdays);
+    text(rt, b" weekdays\n");
 }
 
-fn print_next(next: Walked) {
-    text(b"the day after the last is ");
-    number(next.day);
-    text(b".");
-    number(next.month);
-    text(b" ");
-    number(next.year);
-    text(b"\n");
+fn print_next(rt: &impl Print, next: Walked) {
+    text(rt, b"the day after the last is ");
+    number(rt, next.day);
+    text(rt, b".");
+    number(rt, next.month);
+    text(rt, b" ");
+    number(rt, next.year);
+    text(rt, b"\n");
 }
 
-fn print_survey(letter: &[u8], tally: Tally) {
-    text(letter);
-    text(b": ");
-    print_counts(tally);
-    text(letter);
-    text(b": ");
+fn print_survey(rt: &impl Print, letter: &[u8], tally: Tally) {
+    text(rt, letter);
+    text(rt, b": ");
+    print_counts(rt, tally);
+    text(rt, letter);
+    text(rt, b": ");
     let next = tally.next;
-    print_next(next);
+    print_next(rt, next);
 }
 
-fn main() {
+fn main(rt: HostRuntime) {
     // 1 January 1 J was a Saturday, and 15 October 1582 G, where O begins too, a Friday.
     let julian_start = walked_to(1, 1, 1, 6);
     let gregorian_start = walked_to(1582, 10, 15, 5);
-    print_survey(b"J", survey(JULIAN, 1721424, 5373557, julian_start));
-    print_survey(b"G", survey(GREGORIAN, 2299161, 5373484, gregorian_start));
+    print_survey(&rt, b"J", survey(JULIAN, 1721424, 5373557, julian_start));
+    print_survey(
+        &rt,
+        b"G",
+        survey(GREGORIAN, 2299161, 5373484, gregorian_start),
+    );
     let same_start = walked_to(1582, 10, 15, 5);
-    print_survey(b"O", survey(OLD_EASTER, 2299161, 5373484, same_start));
+    print_survey(&rt, b"O", survey(OLD_EASTER, 2299161, 5373484, same_start));
 }
