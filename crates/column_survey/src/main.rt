@@ -8,7 +8,6 @@ use calendar::style::{Style, easter_by};
 use calendar::year::NamedYear;
 use church::sheet::{SheetAnswer, sheet_in_year};
 use column::luna_one;
-use libc::STDOUT_FILENO;
 use std::num::wrapping_add_u64;
 
 // How many years have a sheet, how many days of the column were walked in them, and how many limits
@@ -59,27 +58,27 @@ fn survey(style: Style) -> Tally {
     tally
 }
 
-fn text(bytes: &[u8]) {
-    io::write_all(STDOUT_FILENO, bytes);
+fn text(rt: &impl Print, bytes: &[u8]) {
+    let _ = rt.write_all(bytes);
 }
 
-fn number(n: u64) {
-    io::print_decimal(STDOUT_FILENO, n);
+fn number(rt: &impl Print, n: u64) {
+    let _ = rt.print(n);
 }
 
-fn print_survey(letter: &[u8], tally: Tally) {
-    text(letter);
-    text(b": ");
-    number(tally.years);
-    text(b" years, ");
-    number(tally.days);
-    text(b" days walked, ");
-    number(tally.limits);
-    text(b" limits\n");
+fn print_survey(rt: &impl Print, letter: &[u8], tally: Tally) {
+    text(rt, letter);
+    text(rt, b": ");
+    number(rt, tally.years);
+    text(rt, b" years, ");
+    number(rt, tally.days);
+    text(rt, b" days walked, ");
+    number(rt, tally.limits);
+    text(rt, b" limits\n");
 }
 
-fn main() {
-    print_survey(b"J", survey(Style::J));
-    print_survey(b"G", survey(Style::G));
-    print_survey(b"O", survey(Style::O));
+fn main(rt: HostRuntime) {
+    print_survey(&rt, b"J", survey(Style::J));
+    print_survey(&rt, b"G", survey(Style::G));
+    print_survey(&rt, b"O", survey(Style::O));
 }
