@@ -5,7 +5,7 @@ use calendar::refusal::refusal_number;
 use calendar::span::day_or_refusal;
 use church::feast::feast_of_year;
 use church::sheet::{SheetAnswer, YearSheet, sheet_of_year};
-use libc::STDOUT_FILENO;
+use itoa::Buffer;
 
 // The room for a printed line; the longest has fewer than 600 bytes.
 const ROOM: usize = 1024;
@@ -29,9 +29,8 @@ fn put_text(out: &mut [u8; ROOM], at: usize, text: &[u8]) -> usize {
 }
 
 fn put_number(out: &mut [u8; ROOM], at: usize, n: u64) -> usize {
-    let mut digits = [0u8; 20];
-    let k = io::decimal(n, &mut digits);
-    put_text(out, at, &digits[..k])
+    let mut digits = Buffer::new();
+    put_text(out, at, digits.format(n).as_bytes())
 }
 
 fn put_spaced(out: &mut [u8; ROOM], at: usize, n: u64) -> usize {
@@ -100,20 +99,20 @@ fn put_answer(out: &mut [u8; ROOM], at: usize, call: Call) -> usize {
 }
 
 // Prints the first n bytes, and tells whether they were written.
-fn print_first(out: &[u8; ROOM], n: usize) -> bool {
+fn print_first(rt: &impl Print, out: &[u8; ROOM], n: usize) -> bool {
     let all = &out[..];
     if n <= all.len() {
-        return io::write_all(STDOUT_FILENO, &all[0..n]);
+        return rt.write_all(&all[0..n]).is_ok();
     }
     false
 }
 
 // Prints the line and its answer, and tells whether they were written.
-pub(crate) fn answer_line(line: &[u8]) -> bool {
+pub(crate) fn answer_line(rt: &impl Print, line: &[u8]) -> bool {
     let mut out = [0u8; ROOM];
     let mut end = put_text(&mut out, 0, line);
     end = put_text(&mut out, end, b": ");
     end = put_answer(&mut out, end, call_of(line));
     end = put_byte(&mut out, end, b'\n');
-    print_first(&out, end)
+    print_first(rt, &out, end)
 }

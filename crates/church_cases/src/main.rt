@@ -12,10 +12,13 @@ mod answer;
 mod call;
 
 use answer::answer_line;
-use libc::{STDERR_FILENO, STDIN_FILENO};
+use std::io::Read;
 
 // The bytes that are kept of a line.
 const LINE: usize = 80;
+
+// The bytes of a block, which one read takes at most.
+const BLOCK: usize = 65536;
 
 // Where the reading stands.
 #[derive(Clone, Copy)]
@@ -26,28 +29,33 @@ enum Reading {
 }
 
 // Ends the reading, with the reason on standard error.
-fn stopped(reason: &[u8]) -> Reading {
-    io::write_all(STDERR_FILENO, reason);
+fn stopped(rt: &impl Eprint, reason: &str) -> Reading {
+    let _ = rt.eprint(reason);
     Reading::Ended
 }
 
 // Answers the line whose bytes are kept, and begins the next.
-fn line_ended(line: &[u8], kept: usize) -> Reading {
+fn line_ended(rt: &(impl Print + Eprint), line: &[u8], kept: usize) -> Reading {
     if kept <= line.len() {
-        if answer_line(&line[0..kept]) {
+        if answer_line(rt, &line[0..kept]) {
             return Reading::Open(0);
         }
     }
-    stopped(b"church_cases: cannot write\n")
+    stopped(rt, "church_cases: cannot write\n")
 }
 
 // The reading after one more byte.
-fn with_byte(line: &mut [u8; LINE], reading: Reading, byte: u8) -> Reading {
+fn with_byte(
+    rt: &(impl Print + Eprint),
+    line: &mut [u8; LINE],
+    reading: Reading,
+    byte: u8,
+) -> Reading {
     let Reading::Open(kept) = reading else {
         return reading;
     };
     if byte == b'\n' {
-        return line_ended(line, kept);
+        return line_ended(rt, line, kept);
     }
     if kept < LINE {
         line[kept] = byte;
@@ -57,46 +65,49 @@ fn with_byte(line: &mut [u8; LINE], reading: Reading, byte: u8) -> Reading {
 }
 
 // The reading after the bytes of a block.
-fn with_block(line: &mut [u8; LINE], reading: Reading, block: &[u8]) -> Reading {
+fn with_block(
+    rt: &(impl Print + Eprint),
+    line: &mut [u8; LINE],
+    reading: Reading,
+    block: &[u8],
+) -> Reading {
     let mut next = reading;
     let mut i = 0;
     while i < block.len() {
-        next = with_byte(line, next, block[i]);
+        next = with_byte(rt, line, next, block[i]);
         i += 1;
     }
     next
 }
 
 // Answers the last line where no line feed ended it.
-fn input_ended(line: &[u8], kept: usize) -> Reading {
+fn input_ended(rt: &(impl Print + Eprint), line: &[u8], kept: usize) -> Reading {
     if kept > 0 {
-        line_ended(line, kept);
+        line_ended(rt, line, kept);
     }
     Reading::Ended
 }
 
 // Reads once, and answers the lines that end in what came.
-fn read_block(line: &mut [u8; LINE], kept: usize) -> Reading {
-    let mut block = io::large_buffer();
-    let got = libc::read(STDIN_FILENO, &mut block);
-    if got < 0 {
-        return stopped(b"church_cases: cannot read\n");
-    }
+fn read_block(rt: &HostRuntime, line: &mut [u8; LINE], kept: usize) -> Reading {
+    let mut block = [0u8; BLOCK];
+    let Ok(got) = rt.stdin().read(&mut block) else {
+        return stopped(rt, "church_cases: cannot read\n");
+    };
     if got == 0 {
-        return input_ended(line, kept);
+        return input_ended(rt, line, kept);
     }
-    let n = io::count(got, &block);
-    with_block(line, Reading::Open(kept), &block[..n])
+    with_block(rt, line, Reading::Open(kept), &block[..got])
 }
 
 // Nothing says that an input ends, so the reads are counted, up to a number that no run reaches.
-fn main() {
+fn main(rt: HostRuntime) {
     let mut line = [0u8; LINE];
     let mut reading = Reading::Open(0);
     for _ in 0..u64::MAX {
         let Reading::Open(kept) = reading else {
             return;
         };
-        reading = read_block(&mut line, kept);
+        reading = read_block(&rt, &mut line, kept);
     }
 }
