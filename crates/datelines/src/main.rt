@@ -5,38 +5,37 @@
 ghost use Rattle.std.specs.Prelude.{◌≤◌, length};
 
 use answers::block::{INPUT, OUTPUT, answer_block, answer_last};
-use libc::{STDERR_FILENO, STDIN_FILENO, STDOUT_FILENO};
+use std::io::Read;
 
 // Writes the first bytes of the output, and tells on standard error where that fails.
-fn put(output: &[u8], count: usize) -> bool
+fn put(rt: &(impl Print + Eprint), output: &[u8], count: usize) -> bool
     requires { count ≤ length output.now }
 {
-    if io::write_all(STDOUT_FILENO, &output[..count]) {
+    if rt.write_all(&output[..count]).is_ok() {
         return true;
     }
-    io::write_all(STDERR_FILENO, b"datelines: cannot write\n");
+    let _ = rt.eprintln("datelines: cannot write");
     false
 }
 
 // Nothing says that an input ends, so the reads are counted, up to a number that no run reaches.
-fn main() {
+fn main(rt: HostRuntime) {
     let mut buffer = [0u8; INPUT];
     let mut output = [0u8; OUTPUT];
     let mut kept = 0;
     for _ in 0..u64::MAX {
-        let got = libc::read(STDIN_FILENO, &mut buffer[kept..]);
-        if got < 0 {
-            io::write_all(STDERR_FILENO, b"datelines: cannot read\n");
+        let Ok(got) = rt.stdin().read(&mut buffer[kept..]) else {
+            let _ = rt.eprintln("datelines: cannot read");
             return;
-        }
+        };
         if got == 0 {
             let written = answer_last(&buffer, kept, &mut output);
-            put(&output, written);
+            put(&rt, &output, written);
             return;
         }
-        let filled = kept + io::count(got, &buffer);
+        let filled = kept + got;
         let progress = answer_block(&mut buffer, filled, &mut output);
-        if !put(&output, progress.written) {
+        if !put(&rt, &output, progress.written) {
             return;
         }
         kept = progress.kept;
