@@ -136,7 +136,8 @@ before_append [] b = omega arith
 before_append (c ∷ a) b =
     elim (either (eqb c line_feed)) [
       | inl e ↦ rw (e, lt-ltb 0 (suc (length a)) (omega arith))
-      | inr e ↦ rw (e, leb-suc-suc (suc (before_feed a)) (length a), before_append a b) (one_more (ltb (before_feed a) (length a)) (before_feed a) (before_feed b))
+      | inr e ↦ rw (e, leb-suc-suc (suc (before_feed a)) (length a), before_append a b)
+          (one_more (ltb (before_feed a) (length a)) (before_feed a) (before_feed b))
     ]
   where
     one_more : (t : Bool) (x y : ℕ) → suc (cond t x (length a + y)) ≡ cond t (suc x) (suc (length a) + y)

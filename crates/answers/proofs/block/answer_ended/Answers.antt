@@ -34,7 +34,10 @@ loop-end-smaller c =
     omega (arith, c.loop-end-test.true, c.end_from-end-in-loop-end.ensures.quiet.from, c.end_from-end-in-loop-end.ensures.quiet.inside)
 
 pub loop-end-preserved : goal.loop-end-preserved
-loop-end-preserved c = (passed (answered (goal.at.loop-end-preserved c).After-slice_known-in-loop-end-1) _ c.end_from-end-in-loop-end.ensures.quiet, c.end_from-end-in-loop-end.ensures.feed)
+loop-end-preserved c = (
+  passed (answered (goal.at.loop-end-preserved c).After-slice_known-in-loop-end-1) _ c.end_from-end-in-loop-end.ensures.quiet,
+  c.end_from-end-in-loop-end.ensures.feed,
+)
 
 pub returns : goal.returns
 returns c = all_ended c.loop-end.invariant.0 c.loop-end-test.false c.requires

@@ -58,7 +58,8 @@ pub overflow_add-result : goal.overflow_add-result
 overflow_add-result c = omega (arith, (ahead (goal.at.overflow_add-result c).After-before_feed).0.quiet.inside)
 
 pub returns-then-first-second-gt0 : goal.returns-then-first-second-gt0
-returns-then-first-second-gt0 c = let b = ahead (goal.at.returns-then-first-second-gt0 c).After-before_feed in record { quiet = b.0.quiet; feed = λ more. b.0.feed b.1 }
+returns-then-first-second-gt0 c =
+    let b = ahead (goal.at.returns-then-first-second-gt0 c).After-before_feed in record { quiet = b.0.quiet; feed = λ more. b.0.feed b.1 }
 
 pub loop-i-smaller : goal.loop-i-smaller
 loop-i-smaller c = omega (arith, room (goal.at.loop-i-smaller c).In-loop-i)

@@ -6,7 +6,6 @@ use Rattle.answers.proofs.feed.Bits.{packed, times, all_bytes, bits, bits_of_byt
 use Rattle.answers.proofs.feed.Laws.{bytes_at, written_out}
 use Rattle.answers.specs.Steps.{feed_bits}
 use Rattle.answers.proofs.feed.feed_bits.Goals as goal
-use Rattle.answers.proofs.feed.feed_bits.Goals.{After-pack4-high, After-pack4-low, After-shared_slice_known-1}
 
 pub returns : goal.returns
 unfolding packed times
@@ -17,5 +16,5 @@ returns c =
     let t = bytes_at s i 0 8 in
     let whole : c.pack8-differs.result ≡ packed t = rw start (omega (arith, c.pack4-low.ensures, c.pack4-high.ensures, c.pack8-differs.ensures)) in
     ap (bits 8) whole
-    ∙ bits_of_bytes t (all_bytes s (λ j. omega (arith, c.shared_slice_known-1.given j)) i 0 8)
+    ∙ bits_of_bytes t (all_bytes s (λ j. omega (arith, c.type_inv.bytes j)) i 0 8)
     ∙ ap feed_bits (sym (ap (λ (j : ℕ). take 8 (drop j s)) (sym start) ∙ written_out s i 0 8 (omega (arith, c.requires))))

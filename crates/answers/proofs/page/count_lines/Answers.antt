@@ -33,7 +33,8 @@ pub feeds_at-count-requires : goal.feeds_at-count-requires
 feeds_at-count-requires c = omega (arith, c.loop-i.invariant.inside, c.loop-i-test.true)
 
 pub overflow_add-count : goal.overflow_add-count
-overflow_add-count c = omega (arith, count_few (eight (goal.at.overflow_add-count c).After-feeds_at-count), (eight (goal.at.overflow_add-count c).After-feeds_at-count).inside)
+overflow_add-count c =
+    omega (arith, count_few (eight (goal.at.overflow_add-count c).After-feeds_at-count), (eight (goal.at.overflow_add-count c).After-feeds_at-count).inside)
 
 pub overflow_add-i : goal.overflow_add-i
 overflow_add-i c = omega (arith, c.loop-i.invariant.inside, c.loop-i-test.true)
@@ -60,7 +61,10 @@ pub loop-i-2-preserved : goal.loop-i-2-preserved
 loop-i-2-preserved c =
     let l = c.loop-i-2 in
     let more = c.loop-i-2-test.true in
-    elim c.if-page-i-eq10.branch [ then-page-i-eq10 w ↦ rw w.count-is (count_end l.invariant more w.if-page-i-eq10.true) | else-page-i-eq10 w ↦ rw w.count-is (count_byte l.invariant more w.if-page-i-eq10.false) ]
+    elim c.if-page-i-eq10.branch [
+      | then-page-i-eq10 w ↦ rw w.count-is (count_end l.invariant more w.if-page-i-eq10.true)
+      | else-page-i-eq10 w ↦ rw w.count-is (count_byte l.invariant more w.if-page-i-eq10.false)
+    ]
 
 pub returns-then-end-eq0 : goal.returns-then-end-eq0
 returns-then-end-eq0 c = sym (no_lines _ c.if-end-eq0.true)

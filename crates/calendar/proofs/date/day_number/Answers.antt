@@ -21,7 +21,10 @@ bounds c = date_bounds _ _ _ _ c.requires.1
 behind_is : (c : Joined-month-gt2) → c.if-month-gt2.behind_february ≡ cond (ltb 2 c.args.month) 1 0
 behind_is c =
     let month = c.args.month in
-    elim c.if-month-gt2.branch [ then-month-gt2 w ↦ rw (lt-ltb 2 month (omega arith)) w.behind_february-is | else-month-gt2 w ↦ rw (le-ltb 2 month (omega arith)) w.behind_february-is ]
+    elim c.if-month-gt2.branch [
+      | then-month-gt2 w ↦ rw (lt-ltb 2 month (omega arith)) w.behind_february-is
+      | else-month-gt2 w ↦ rw (le-ltb 2 month (omega arith)) w.behind_february-is
+    ]
 
 behind_small : (c : Joined-month-gt2) → c.if-month-gt2.behind_february ≤ 1
 behind_small c = elim c.if-month-gt2.branch [ then-month-gt2 w ↦ omega arith | else-month-gt2 w ↦ omega arith ]
@@ -54,13 +57,25 @@ pub overflow_sub-result : goal.overflow_sub-result
 overflow_sub-result c = omega (arith, bounds (goal.at.overflow_sub-result c).Start)
 
 pub overflow_add-result : goal.overflow_add-result
-overflow_add-result c = omega (arith, sum_is (goal.at.overflow_add-result c).After-new_year-start, day_small (goal.at.overflow_add-result c).Start, behind_small (goal.at.overflow_add-result c).Joined-month-gt2)
+overflow_add-result c =
+    omega (
+      arith,
+      sum_is (goal.at.overflow_add-result c).After-new_year-start,
+      day_small (goal.at.overflow_add-result c).Start,
+      behind_small (goal.at.overflow_add-result c).Joined-month-gt2,
+    )
 
 pub overflow_sub-result-2 : goal.overflow_sub-result-2
 overflow_sub-result-2 c = omega (arith, bounds (goal.at.overflow_sub-result-2 c).Start)
 
 pub overflow_add-result-2 : goal.overflow_add-result-2
-overflow_add-result-2 c = omega (arith, sum_is (goal.at.overflow_add-result-2 c).After-new_year-start, day_small (goal.at.overflow_add-result-2 c).Start, behind_small (goal.at.overflow_add-result-2 c).Joined-month-gt2)
+overflow_add-result-2 c =
+    omega (
+      arith,
+      sum_is (goal.at.overflow_add-result-2 c).After-new_year-start,
+      day_small (goal.at.overflow_add-result-2 c).Start,
+      behind_small (goal.at.overflow_add-result-2 c).Joined-month-gt2,
+    )
 
 pub overflow_sub-result-3 : goal.overflow_sub-result-3
 overflow_sub-result-3 c = omega (arith, sum_is (goal.at.overflow_sub-result-3 c).After-new_year-start)

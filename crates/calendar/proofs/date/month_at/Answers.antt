@@ -14,7 +14,9 @@ pub days_before-next-requires : goal.days_before-next-requires
 days_before-next-requires c = omega (arith, before_last (goal.at.days_before-next-requires c).Else-estimate-eq12)
 
 pub returns-then-next-day_of_year : goal.returns-then-next-day_of_year
-returns-then-next-day_of_year c = next_month _ _ c.requires (before_last (goal.at.returns-then-next-day_of_year c).Else-estimate-eq12) (rw (← c.days_before-next.ensures) c.if-next-day_of_year.true)
+returns-then-next-day_of_year c =
+    next_month _ _ c.requires (before_last (goal.at.returns-then-next-day_of_year c).Else-estimate-eq12)
+    (rw (← c.days_before-next.ensures) c.if-next-day_of_year.true)
 
 pub returns : goal.returns
 returns c = this_month _ _ c.requires (before_last (goal.at.returns c).Else-estimate-eq12) (rw (← c.days_before-next.ensures) c.if-next-day_of_year.false)

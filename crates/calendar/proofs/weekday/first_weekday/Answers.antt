@@ -26,7 +26,8 @@ pub overflow_mul-back : goal.overflow_mul-back
 overflow_mul-back c = omega (arith, week (goal.at.overflow_mul-back c).Else-not-is_between)
 
 pub overflow_add-back-2 : goal.overflow_add-back-2
-overflow_add-back-2 c = omega (arith, small (goal.at.overflow_add-back-2 c).After-latest_of_seven-latest, week (goal.at.overflow_add-back-2 c).Else-not-is_between)
+overflow_add-back-2 c =
+    omega (arith, small (goal.at.overflow_add-back-2 c).After-latest_of_seven-latest, week (goal.at.overflow_add-back-2 c).Else-not-is_between)
 
 pub returns-then-latest-back : goal.returns-then-latest-back
 returns-then-latest-back c =

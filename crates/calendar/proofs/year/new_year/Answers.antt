@@ -12,7 +12,11 @@ first_is c = elim c.match-calendar.branch [ in-Julian w ↦ rw w.in-Julian.is w.
 hundreds_are : (c : Joined-calendar-2)
     → let a = c.args in
     c.match-calendar-2.hundreds ≡ hundreds a.calendar (a.year - 1)
-hundreds_are c = elim c.match-calendar-2.branch [ in-Julian-calendar w ↦ rw w.in-Julian-calendar.is w.hundreds-is | in-Gregorian-calendar w ↦ rw w.in-Gregorian-calendar.is w.hundreds-is ]
+hundreds_are c =
+    elim c.match-calendar-2.branch [
+      | in-Julian-calendar w ↦ rw w.in-Julian-calendar.is w.hundreds-is
+      | in-Gregorian-calendar w ↦ rw w.in-Gregorian-calendar.is w.hundreds-is
+    ]
 
 sizes : (c : Joined-calendar-2) → (c.match-calendar.first ≤ 1721426) × (c.match-calendar-2.hundreds ≤ (c.args.year - 1) / 4)
 sizes c =

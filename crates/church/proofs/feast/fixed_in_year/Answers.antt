@@ -9,7 +9,8 @@ use Rattle.calendar.specs.Style.{dates_by}
 use Rattle.calendar.specs.Year.{leap}
 use Rattle.church.proofs.feast.Laws.{fixed_dates, fixed_day}
 use Rattle.church.proofs.feast.fixed_in_year.Goals as goal
-use Rattle.church.proofs.feast.fixed_in_year.Goals.{Joined-date-ge512, then-date-ge512+then-is_leap, else-date-ge512, else-date-ge512-via-then-date-ge512+else-is_leap, else-date-ge512-via-else-date-ge512}
+use Rattle.church.proofs.feast.fixed_in_year.Goals.{Joined-date-ge512, then-date-ge512+then-is_leap, else-date-ge512}
+use Rattle.church.proofs.feast.fixed_in_year.Goals.{else-date-ge512-via-then-date-ge512+else-is_leap, else-date-ge512-via-else-date-ge512}
 
 -- how many days later, where the ways meet
 added : (c : Joined-date-ge512)

@@ -6,7 +6,8 @@ use Rattle.church.proofs.easter.Laws.{key_fits, key_to_easter}
 use Rattle.calendar.specs.Style.{dates_by, easter_by}
 use Rattle.church.specs.Easter.{march, easter, key, has_easter}
 use Rattle.church.proofs.sheet.sheet_in_year.Goals as goal
-use Rattle.church.proofs.sheet.sheet_in_year.Goals.{After-dates_by-date_calendar, After-easter_by-easter_calendar, After-limit_of_year-limit, After-second_letter-second, In-Day, In-Day-equinox}
+use Rattle.church.proofs.sheet.sheet_in_year.Goals.{After-dates_by-date_calendar, After-easter_by-easter_calendar, After-limit_of_year-limit}
+use Rattle.church.proofs.sheet.sheet_in_year.Goals.{After-second_letter-second, In-Day, In-Day-equinox}
 
 is_easter : (c : In-Day)
     → let named = c.args.named in

@@ -14,7 +14,8 @@ use Rattle.calendar.specs.declared.weekday.Start.TheVariants.{Counted, Uncounted
 use Rattle.words.specs.declared.wrapper.Wrapper.TheVariants.{Eve, Morrow, Octave, First}
 use Rattle.words.specs.declared.wrapper.Wrapper.{Wrapper}
 use Rattle.dating.proofs.act.act.Goals as goal
-use Rattle.dating.proofs.act.act.Goals.{After-first_weekday-found, After-side_of, After-start_of, Joined-told-eq0, Joined-told-eq0-2, else-told-eq0, else-told-eq0-2, then-told-eq0, then-told-eq0-2}
+use Rattle.dating.proofs.act.act.Goals.{After-first_weekday-found, After-side_of, After-start_of, Joined-told-eq0, Joined-told-eq0-2, else-told-eq0}
+use Rattle.dating.proofs.act.act.Goals.{else-told-eq0-2, then-told-eq0, then-told-eq0-2}
 
 -- what a wrapper's number k makes of a day: so many days are added, or a weekday is looked for
 abbrev ActsBy : Wrapper → ℕ → ℕ → Type 0

@@ -10,7 +10,10 @@ may c = record {
   long = c.if-anchor-lt3.false;
   low = c.if-anchor-gt57.false;
   early = elim c.if-anchor-eq46.branch [ then-anchor-eq46 w ↦ omega arith | else-anchor-eq46 w ↦ omega arith ];
-  place = elim c.if-anchor-eq46.branch [ then-anchor-eq46 w ↦ inl (w.if-anchor-eq46.true, w.end-is) | else-anchor-eq46 w ↦ inr (w.if-anchor-eq46.false, w.end-is) ];
+  place = elim c.if-anchor-eq46.branch [
+    | then-anchor-eq46 w ↦ inl (w.if-anchor-eq46.true, w.end-is)
+    | else-anchor-eq46 w ↦ inr (w.if-anchor-eq46.false, w.end-is)
+  ];
 }
 
 pub returns-then-anchor-lt3 : goal.returns-then-anchor-lt3

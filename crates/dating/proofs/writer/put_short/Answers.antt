@@ -14,7 +14,10 @@ put : (c : Joined-number-lt10)
     let b = set (set a.buffer.now a.at (digit (a.number / 10))) c.if-number-lt10.last (digit (a.number % 10)) in
     Put a.buffer.now a.at (field a.number a.behind) (set b (c.if-number-lt10.last + 1) a.behind) (c.if-number-lt10.last + 2)
 put c =
-    elim c.if-number-lt10.branch [ then-number-lt10 w ↦ rw w.last-is (one_digit_put _ _ _ _ w.if-number-lt10.true) | else-number-lt10 w ↦ rw w.last-is (two_digits_put _ _ _ _ w.if-number-lt10.false c.requires.0) ]
+    elim c.if-number-lt10.branch [
+      | then-number-lt10 w ↦ rw w.last-is (one_digit_put _ _ _ _ w.if-number-lt10.true)
+      | else-number-lt10 w ↦ rw w.last-is (two_digits_put _ _ _ _ w.if-number-lt10.false c.requires.0)
+    ]
 
 -- they fit
 fits : (c : Joined-number-lt10) → c.if-number-lt10.last + 1 < length c.args.buffer.now

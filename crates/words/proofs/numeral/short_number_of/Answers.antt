@@ -12,7 +12,10 @@ whole c =
     let first = c.before.before.before.before in
     let few = first.before.before.before in
     short_read _ (omega (arith, few.if-count-eq0.false), few.if-count-gt2.false) (first.if-leading-lt49.false, first.if-leading-gt57.false)
-    (c.if-last-lt48.false, c.if-last-gt57.false) (elim c.if-count-eq2.branch [ then-count-eq2 w ↦ inl (w.if-count-eq2.true, w.tens-is) | else-count-eq2 w ↦ inr (w.if-count-eq2.false, w.tens-is) ])
+    (c.if-last-lt48.false, c.if-last-gt57.false) (elim c.if-count-eq2.branch [
+      | then-count-eq2 w ↦ inl (w.if-count-eq2.true, w.tens-is)
+      | else-count-eq2 w ↦ inr (w.if-count-eq2.false, w.tens-is)
+    ])
 
 pub returns-then-count-eq0 : goal.returns-then-count-eq0
 returns-then-count-eq0 c = no_numeral _ _ (λ l. omega (arith, l.some, c.if-count-eq0.true))

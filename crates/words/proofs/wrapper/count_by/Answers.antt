@@ -12,4 +12,7 @@ pub returns-else-middle-eq543584032 : goal.returns-else-middle-eq543584032
 unfolding four
 returns-else-middle-eq543584032 c =
     rw (ne_eqb _ 0x20666f20 c.if-middle-eq543584032.false)
-    (elim c.if-middle-eq1717920288.branch [ then-middle-eq1717920288 w ↦ w.count-is ∙ rw (eq-eqb _ 0x66656220 w.if-middle-eq1717920288.true) | else-middle-eq1717920288 w ↦ w.count-is ∙ rw (ne_eqb _ 0x66656220 w.if-middle-eq1717920288.false) ])
+    (elim c.if-middle-eq1717920288.branch [
+      | then-middle-eq1717920288 w ↦ w.count-is ∙ rw (eq-eqb _ 0x66656220 w.if-middle-eq1717920288.true)
+      | else-middle-eq1717920288 w ↦ w.count-is ∙ rw (ne_eqb _ 0x66656220 w.if-middle-eq1717920288.false)
+    ])

@@ -8,7 +8,8 @@ returns-then-eight-eq6998719642544795424 c = rw (eq-eqb _ 0x6120726f206e6f20 c.i
 
 pub returns-then-eight-eq7070777236582723360 : goal.returns-then-eight-eq7070777236582723360
 unfolding four
-returns-then-eight-eq7070777236582723360 c = rw (ne_eqb _ 0x6120726f206e6f20 c.if-eight-eq6998719642544795424.false, eq-eqb _ 0x6220726f206e6f20 c.if-eight-eq7070777236582723360.true)
+returns-then-eight-eq7070777236582723360 c =
+    rw (ne_eqb _ 0x6120726f206e6f20 c.if-eight-eq6998719642544795424.false, eq-eqb _ 0x6220726f206e6f20 c.if-eight-eq7070777236582723360.true)
 
 pub returns : goal.returns
 unfolding four
