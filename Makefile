@@ -9,16 +9,13 @@ unexport PREFIX DESTDIR
 export QV_PREFIX := $(value PREFIX)
 export QV_DESTDIR := $(value DESTDIR)
 
-# The whole test; the last line is rt ci's 'N passed, 0 failed', behind which it is only recorded what the programs were built from.
+# The whole test; the last line is rt ci's 'N passed, 0 failed'.
 check: tests
 	tests/anywhere
-	rt ci
-	@tests/built datelines
-	@tests/built datemarks
+	tests/gate
 
 # All of it but the proofs of every crate from nothing, the refused edits, and the same tests at another place.
 tests: kit
-	rt fmt --check
 	tests/header
 	tests/edits
 	tests/second
@@ -32,12 +29,12 @@ tests: kit
 
 # The worked calls with their answers, from the proved library.
 answers: kit
-	@rt check days_cases church_cases >&2
-	@cat target/log/days_cases.stdout target/log/church_cases.stdout
+	@tests/run days_cases </dev/null
+	@tests/run church_cases <crates/church_cases/stdin
 
 # The archive for C programs, target/staticlib/libqashmelvit.a.
 lib: kit
-	rt staticlib qashmelvit
+	tests/built qashmelvit
 
 # The build for browsers, target/wasm.
 wasm: kit
