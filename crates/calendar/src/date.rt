@@ -36,6 +36,7 @@ fn month_length(leap_year: bool, month: u64) -> u64
 }
 
 // The days of a common year before a month.
+#[tactic(auto, unfolding(crate::specs::Date::days_of_months))]
 fn common_before(month: u64) -> u64
     requires { (1 ≤ month) × (month ≤ 12) }
     ensures { result ≡ days_of_months false (pred month) }

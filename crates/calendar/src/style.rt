@@ -30,6 +30,7 @@ pub enum StyleAnswer {
 }
 
 // The style that has a number.
+#[tactic(auto, unfolding(crate::specs::Style::style_of))]
 pub fn style_of(number: u64) -> StyleAnswer
     ensures { result ≡ style_of number }
 {

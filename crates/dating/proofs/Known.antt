@@ -104,7 +104,8 @@ unfolding spell_line line_day phrase_day
 read p t fits good year spelled told = fit fits (produced (record { phrase = p; named = t }) (record { phrase = good; year = year }) spelled told)
 
 lines_known : All Holds line_rows
-unfolding spell_phrase spell_anchor decimal GoodPhrase GoodAnchor comes_to stays_in anchor_of served is_date in_span between day_number days_of_months new_year days_of_years
+unfolding spell_phrase spell_anchor decimal GoodPhrase GoodAnchor comes_to stays_in anchor_of served is_date in_span between
+    day_number days_of_months new_year days_of_years
 lines_known =
     read (plain (date 29 2)) (named J 1900) refl (omega arith) (omega arith) refl refl
     also refl

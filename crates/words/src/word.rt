@@ -8,6 +8,7 @@ ghost use Rattle.words.specs.Word.{feast_word, feast_words};
 use crate::text::is_word;
 
 // The first four and the last four bytes of the word in a slot, as one number.
+#[tactic(auto, unfolding(crate::specs::Steps::four, crate::specs::Steps::held))]
 fn outer_in(slot: usize) -> u64
     ensures { result ≡ outer_in feast_slot feast_word 48 slot }
 {
@@ -65,6 +66,7 @@ fn outer_in(slot: usize) -> u64
 }
 
 // The four bytes in the middle of the word in a slot, 2^32 times its length and 2^40 times the number of its feast, as one number; 0 where there is none.
+#[tactic(auto, unfolding(crate::specs::Steps::four, crate::specs::Steps::held))]
 fn inner_in(slot: usize) -> u64
     ensures { result ≡ inner_in feast_slot feast_word 48 slot }
 {

@@ -32,6 +32,7 @@ pub struct Found {
 }
 
 // The first four and the last four bytes of the words in a slot, as one number.
+#[tactic(auto, unfolding(crate::specs::Steps::four, crate::specs::Steps::held))]
 fn outer_in(slot: usize) -> u64
     ensures { result ≡ wrapper_outer slot }
 {
@@ -58,6 +59,7 @@ fn outer_in(slot: usize) -> u64
 }
 
 // The four bytes from the fourth on of the words in a slot, and 2^32 times the wrapper's number, as one number.
+#[tactic(auto, unfolding(crate::specs::Steps::four, crate::specs::Steps::held))]
 fn middle_in(slot: usize) -> u64
     ensures { result ≡ wrapper_middle slot }
 {
