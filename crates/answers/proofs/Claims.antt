@@ -28,7 +28,7 @@ use Rattle.answers.specs.Page.{page_tests, page_answer, IsPlace, Filled, FillsPa
 use Rattle.calendar.specs.declared.refusal.Refusal.TheVariants.{Length}
 use Rattle.calendar.specs.declared.refusal.Refusal.{Refusal}
 use Rattle.answers.specs.declared.block.Progress.{Progress}
-use Rattle.answers.specs.declared.page.PageAnswer.TheVariants.{Lines, NoPage}
+use Rattle.std.specs.Prelude.{Ok, Err}
 
 -- What has the shape of an input's lines is its lines, and nothing else is.
 pub has_lines : (s : List ℕ) (ls : List (List ℕ)) → HasLines s ls ↔ (ls ≡ lines_of s)
@@ -87,8 +87,8 @@ one_page s before after then h k = both_checked (page_tests s (length before)) s
 
 -- A page's places are filled and the number of its lines is answered, or it is refused by 2 and they are as they were.
 pub filled_or_refused : (s before after : List ℕ) → FillsPage s before after
-    → ((page_answer s (length before) ≡ Lines (length (lines_of s))) × Filled s before after)
-    ⊎ ((page_answer s (length before) ≡ NoPage Length) × (after ≡ before))
+    → ((page_answer s (length before) ≡ Ok (length (lines_of s))) × Filled s before after)
+    ⊎ ((page_answer s (length before) ≡ Err Length) × (after ≡ before))
 filled_or_refused s before after h =
     let size = length before in
     elim (dec_lt 65536 (length s)) [

@@ -7,16 +7,16 @@ use Rattle.places.specs.Number.{number_bytes, number_of}
 use Rattle.places.specs.Turn.{InTurn}
 use Rattle.answers.specs.Lines.{lines_of}
 use Rattle.calendar.specs.declared.refusal.Refusal.TheVariants.{Length}
-use Rattle.answers.specs.declared.page.PageAnswer.TheVariants.{Lines, NoPage}
-use Rattle.answers.specs.declared.page.PageAnswer.{PageAnswer}
+use Rattle.std.specs.Prelude.{Result, Ok, Err}
+use Rattle.calendar.specs.declared.refusal.Refusal.{Refusal}
 
 -- the tests of the page s where size bytes of places are lent, "a place is four bytes": "2 if there are more lines than places or more than 65,536 bytes"
 abbrev pub page_tests : List ℕ → (size : ℕ) → List Test
 page_tests s size = Length unless leb (length s) 65536 ∷ Length unless leb (length (lines_of s)) (size / 4) ∷ []
 
 -- what the call answers: "the number of lines", or the refusal
-abbrev pub page_answer : List ℕ → (size : ℕ) → PageAnswer
-page_answer s size = checked NoPage (Lines (length (lines_of s))) (page_tests s size)
+abbrev pub page_answer : List ℕ → (size : ℕ) → Result ℕ Refusal
+page_answer s size = checked Err (Ok (length (lines_of s))) (page_tests s size)
 
 -- t are the bytes in the place of the line l: "the day, or the refusal number", "low byte first"
 abbrev pub IsPlace : (l t : List ℕ) → Type 0
@@ -31,14 +31,14 @@ abbrev pub FillsPage : (s before after : List ℕ) → Type 0
 FillsPage s before after = checked (λ x. after ≡ before) (Filled s before after) (page_tests s (length before))
 
 -- the number of lines, "0 if refused"
-abbrev pub lines_or_zero : PageAnswer → ℕ
-lines_or_zero (Lines n) = n
-lines_or_zero (NoPage x) = 0
+abbrev pub lines_or_zero : Result ℕ Refusal → ℕ
+lines_or_zero (Ok n) = n
+lines_or_zero (Err x) = 0
 
 -- "the page's refusal, or 0"
-abbrev pub page_refusal : PageAnswer → ℕ
-page_refusal (Lines n) = 0
-page_refusal (NoPage x) = refusal_number x
+abbrev pub page_refusal : Result ℕ Refusal → ℕ
+page_refusal (Ok n) = 0
+page_refusal (Err x) = refusal_number x
 
 -- the number in the place i of the bytes s, where the first place is 0
 abbrev pub number_at : ℕ → List ℕ → ℕ

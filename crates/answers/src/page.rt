@@ -4,16 +4,9 @@ ghost use Rattle.answers.specs.Lines.{lines_of};
 ghost use Rattle.answers.specs.Page.{page_answer, Filled, FillsPage, lines_or_zero, page_refusal};
 
 use crate::feed::{end_from, feeds_at};
-use calendar::refusal::{Refusal, refusal_number};
+use calendar::refusal::Refusal;
 use dating::line::number_of_line;
 use places::number::put_number;
-
-// The number of lines of a page, or why it is refused.
-#[derive(Clone, Copy)]
-pub enum PageAnswer {
-    Lines(usize),
-    NoPage(Refusal),
-}
 
 // How many lines a page has.
 fn count_lines(page: &[u8]) -> usize
@@ -57,49 +50,49 @@ fn fill_places(page: &[u8], places: &mut [u8])
 }
 
 // How many lines a page has, or its refusal, 2, where size bytes of places are lent.
-fn lines_in_size(page: &[u8], size: usize) -> PageAnswer
+fn lines_in_size(page: &[u8], size: usize) -> Result<usize, Refusal>
     ensures { result ≡ page_answer page.now size }
 {
     if page.len() > 65536 {
-        return PageAnswer::NoPage(Refusal::Length);
+        return Err(Refusal::Length);
     }
     let count = count_lines(page);
     if count > size / 4 {
-        return PageAnswer::NoPage(Refusal::Length);
+        return Err(Refusal::Length);
     }
-    PageAnswer::Lines(count)
+    Ok(count)
 }
 
 // Puts the day or refusal of each line of a page in a place of its own, and answers the number of lines; or refuses by 2 and puts nothing.
-pub fn fill_page(page: &[u8], places: &mut [u8]) -> PageAnswer
+pub fn fill_page(page: &[u8], places: &mut [u8]) -> Result<usize, Refusal>
     ensures value { result ≡ page_answer page.now (length places.old) }
     ensures fills_page { FillsPage page.now places.old places.new }
 {
     match lines_in_size(page, places.len()) {
-        PageAnswer::Lines(count) => {
+        Ok(count) => {
             fill_places(page, places);
-            PageAnswer::Lines(count)
+            Ok(count)
         }
-        PageAnswer::NoPage(refusal) => PageAnswer::NoPage(refusal),
+        Err(refusal) => Err(refusal),
     }
 }
 
 // Why a page is refused where size bytes of places are lent: 2, or 0 where it is not.
 pub fn page_refusal(page: &[u8], size: usize) -> u32
-    ensures { result ≡ page_refusal (page_answer page.now size) }
+    ensures { result ≡ refusal_or_zero (page_answer page.now size) }
 {
     match lines_in_size(page, size) {
-        PageAnswer::Lines(_) => 0,
-        PageAnswer::NoPage(refusal) => refusal_number(refusal),
+        Ok(_) => 0,
+        Err(refusal) => u32::from(refusal),
     }
 }
 
 // The number of lines, or 0 where the page is refused.
-pub fn lines_or_zero(answer: PageAnswer) -> usize
+pub fn lines_or_zero(answer: Result<usize, Refusal>) -> usize
     ensures { result ≡ lines_or_zero answer }
 {
     match answer {
-        PageAnswer::Lines(count) => count,
-        PageAnswer::NoPage(_) => 0,
+        Ok(count) => count,
+        Err(_) => 0,
     }
 }

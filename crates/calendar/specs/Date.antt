@@ -1,18 +1,21 @@
 -- Dates and their days.
 use Rattle.std.specs.Prelude.{Bool, ◌&&◌, cond, List, [], ◌∷◌, ◌≡◌, ℕ, zero, suc, pred, ◌+◌, ◌≤◌, ◌<◌, ltb, eqb, get_or}
 use Rattle.calendar.specs.Range.{between}
-use Rattle.calendar.specs.Refusal.{refusal_number, Test, ◌unless◌, checked}
+use Rattle.calendar.specs.Refusal.{Test, ◌unless◌, checked}
 use Rattle.calendar.specs.Span.{in_span, span_tests}
 use Rattle.calendar.specs.Style.{dates_by, style_of, in_style}
 use Rattle.calendar.specs.Year.{named, leap, new_year, served}
-use Rattle.calendar.specs.declared.date.DateAnswer.TheVariants.{On, NoDate}
-use Rattle.calendar.specs.declared.date.DateAnswer.{DateAnswer}
 use Rattle.calendar.specs.declared.refusal.Refusal.TheVariants.{Year, Date, Span}
-use Rattle.calendar.specs.declared.span.DayAnswer.TheVariants.{Day, NoDay}
-use Rattle.calendar.specs.declared.span.DayAnswer.{DayAnswer}
 use Rattle.calendar.specs.declared.style.Calendar.{Calendar}
 use Rattle.calendar.specs.declared.style.Style.{Style}
 use Rattle.calendar.specs.declared.year.NamedYear.{NamedYear}
+use Rattle.std.specs.Prelude.{Result, Ok, Err}
+use Rattle.calendar.specs.declared.refusal.Refusal.{Refusal}
+use Rattle.calendar.specs.declared.date.CalendarDate.{CalendarDate}
+
+-- the record that holds a year, a month and a day
+abbrev pub date : ℕ → ℕ → ℕ → CalendarDate
+date y m d = record { year = y; month = m; day = d }
 
 -- the lengths of a common year's months
 abbrev pub month_lengths : List ℕ
@@ -51,46 +54,41 @@ date_tests c y m d =
     ∷ []
 
 -- the day of a date, refused by 4, 5 or 6
-unfoldable pub day_in_calendar : Calendar → ℕ → ℕ → ℕ → DayAnswer
-day_in_calendar c y m d = checked NoDay (Day (day_number c y m d)) (date_tests c y m d)
+unfoldable pub day_in_calendar : Calendar → ℕ → ℕ → ℕ → Result ℕ Refusal
+day_in_calendar c y m d = checked Err (Ok (day_number c y m d)) (date_tests c y m d)
 
 -- the day of a date of the named year t
-abbrev pub day_in_year : NamedYear → ℕ → ℕ → DayAnswer
+abbrev pub day_in_year : NamedYear → ℕ → ℕ → Result ℕ Refusal
 day_in_year t m d = day_in_calendar (dates_by t.style) t.year m d
 
 -- date to day in the style with the number k: refused by 1, and else as in the style
-abbrev pub day_of_date : ℕ → ℕ → ℕ → ℕ → DayAnswer
-day_of_date k y m d = in_style NoDay (λ s. day_in_year (named s y) m d) (style_of k)
+abbrev pub day_of_date : ℕ → ℕ → ℕ → ℕ → Result ℕ Refusal
+day_of_date k y m d = in_style Err (λ s. day_in_year (named s y) m d) (style_of k)
 
 -- a date whose day is n
-abbrev pub IsDateOf : Calendar → ℕ → DateAnswer → Type 0
-IsDateOf c n (On y m d) = day_in_calendar c y m d ≡ Day n
-IsDateOf c n (NoDate x) = ⊥
+abbrev pub IsDateOf : Calendar → ℕ → Result CalendarDate Refusal → Type 0
+IsDateOf c n (Ok t) = day_in_calendar c t.year t.month t.day ≡ Ok n
+IsDateOf c n (Err x) = ⊥
 
 -- what the date of a day may be: refused by 6, and else the date whose day it is
-abbrev pub IsDateInCalendar : Calendar → ℕ → DateAnswer → Type 0
-IsDateInCalendar c n r = checked (λ x. r ≡ NoDate x) (IsDateOf c n r) (span_tests c n)
+abbrev pub IsDateInCalendar : Calendar → ℕ → Result CalendarDate Refusal → Type 0
+IsDateInCalendar c n r = checked (λ x. r ≡ Err x) (IsDateOf c n r) (span_tests c n)
 
-abbrev pub IsDateInStyle : Style → ℕ → DateAnswer → Type 0
+abbrev pub IsDateInStyle : Style → ℕ → Result CalendarDate Refusal → Type 0
 IsDateInStyle s n r = IsDateInCalendar (dates_by s) n r
 
--- the refusal's number, or 0 where there is none
-abbrev pub date_refusal : DateAnswer → ℕ
-date_refusal (On y m d) = 0
-date_refusal (NoDate x) = refusal_number x
-
 -- year, month and day; none where they are refused
-abbrev pub date_numbers : DateAnswer → List ℕ
-date_numbers (On y m d) = y ∷ m ∷ d ∷ []
-date_numbers (NoDate x) = []
+abbrev pub date_numbers : Result CalendarDate Refusal → List ℕ
+date_numbers (Ok t) = t.year ∷ t.month ∷ t.day ∷ []
+date_numbers (Err x) = []
 
 -- day to date in the style with the number k: refused by 1, and else as in the style
-abbrev pub IsDateOfDay : ℕ → ℕ → DateAnswer → Type 0
-IsDateOfDay k n r = in_style (λ x. r ≡ NoDate x) (λ s. IsDateInStyle s n r) (style_of k)
+abbrev pub IsDateOfDay : ℕ → ℕ → Result CalendarDate Refusal → Type 0
+IsDateOfDay k n r = in_style (λ x. r ≡ Err x) (λ s. IsDateInStyle s n r) (style_of k)
 
 -- the next date of the calendar: the next day of the month, or the first of the next month, or of the next year
-abbrev pub next_date : Calendar → ℕ → ℕ → ℕ → DateAnswer
+abbrev pub next_date : Calendar → ℕ → ℕ → ℕ → Result CalendarDate Refusal
 next_date c y m d =
-    cond (ltb d (month_length (leap c y) m)) (On y m (d + 1))
-    (cond (ltb m 12) (On y (m + 1) 1)
-    (On (y + 1) 1 1))
+    cond (ltb d (month_length (leap c y) m)) (Ok (date y m (d + 1)))
+    (cond (ltb m 12) (Ok (date y (m + 1) 1))
+    (Ok (date (y + 1) 1 1)))

@@ -1,5 +1,5 @@
 -- Refusals, their numbers, and the tests that they are given by.
-use Rattle.std.specs.Prelude.{Bool, true, false, List, [], ◌∷◌, ◌⊎◌, ◌≡◌, ℕ, ◌≤◌, T, leb}
+use Rattle.std.specs.Prelude.{Bool, true, false, List, [], ◌∷◌, ◌⊎◌, ◌≡◌, ℕ, ◌≤◌, T, leb, Result, Ok, Err}
 use Rattle.calendar.specs.declared.refusal.Refusal.TheVariants.{Name, Length, Form, Year, Date, Span, Encoding}
 use Rattle.calendar.specs.declared.refusal.Refusal.{Refusal}
 
@@ -39,3 +39,14 @@ pub record Lowest (holding : Refusal → Type 0) (n : ℕ) : Type 0 where
   pub holds : holding refusal
   pub number : refusal_number refusal ≡ n
   pub lowest : (x : Refusal) → holding x → n ≤ refusal_number x
+
+-- "one answers the refusal, or 0 if there is none"
+module _ {A : Type 0} where
+  abbrev pub refusal_or_zero : Result A Refusal → ℕ
+  refusal_or_zero (Ok a) = 0
+  refusal_or_zero (Err x) = refusal_number x
+
+-- "a call for a day answers one number, the day or the refusal"
+abbrev pub number_or_refusal : Result ℕ Refusal → ℕ
+number_or_refusal (Ok n) = n
+number_or_refusal (Err x) = refusal_number x

@@ -1,12 +1,12 @@
 -- The days that a style may name, by the calendar that its dates go by.
 use Rattle.std.specs.Prelude.{Bool, List, [], ◌∷◌, ℕ}
 use Rattle.calendar.specs.Range.{between}
-use Rattle.calendar.specs.Refusal.{refusal_number, Test, ◌unless◌, checked}
+use Rattle.calendar.specs.Refusal.{Test, ◌unless◌, checked}
 use Rattle.calendar.specs.declared.refusal.Refusal.TheVariants.{Span}
-use Rattle.calendar.specs.declared.span.DayAnswer.TheVariants.{Day, NoDay}
-use Rattle.calendar.specs.declared.span.DayAnswer.{DayAnswer}
 use Rattle.calendar.specs.declared.style.Calendar.TheVariants.{Julian, Gregorian}
 use Rattle.calendar.specs.declared.style.Calendar.{Calendar}
+use Rattle.std.specs.Prelude.{Result, Ok, Err}
+use Rattle.calendar.specs.declared.refusal.Refusal.{Refusal}
 
 -- "First day" of the span
 abbrev pub first_day : Calendar → ℕ
@@ -35,10 +35,5 @@ abbrev pub span_tests : Calendar → ℕ → List Test
 span_tests c n = Span unless in_span c n ∷ []
 
 -- the day n where the span has it, and else the refusal
-unfoldable pub within : Calendar → ℕ → DayAnswer
-within c n = checked NoDay (Day n) (span_tests c n)
-
--- "a call for a day answers one number, the day or the refusal"
-abbrev pub day_or_refusal : DayAnswer → ℕ
-day_or_refusal (Day n) = n
-day_or_refusal (NoDay x) = refusal_number x
+unfoldable pub within : Calendar → ℕ → Result ℕ Refusal
+within c n = checked Err (Ok n) (span_tests c n)

@@ -1,15 +1,14 @@
 -- The styles, each with two sides: the calendar that its dates go by, and the calendar that its Easter goes by.
 use Rattle.std.specs.Prelude.{false, cond, List, [], ◌∷◌, ℕ, eqb}
 use Prim.Native.Char.{code}
-use Rattle.calendar.specs.Refusal.{refusal_number, Test, ◌unless◌}
+use Rattle.calendar.specs.Refusal.{Test, ◌unless◌}
 use Rattle.calendar.specs.declared.refusal.Refusal.TheVariants.{Name}
 use Rattle.calendar.specs.declared.refusal.Refusal.{Refusal}
 use Rattle.calendar.specs.declared.style.Calendar.TheVariants.{Julian, Gregorian}
 use Rattle.calendar.specs.declared.style.Calendar.{Calendar}
 use Rattle.calendar.specs.declared.style.Style.TheVariants.{J, G, O}
 use Rattle.calendar.specs.declared.style.Style.{Style}
-use Rattle.calendar.specs.declared.style.StyleAnswer.TheVariants.{Known, NoStyle}
-use Rattle.calendar.specs.declared.style.StyleAnswer.{StyleAnswer}
+use Rattle.std.specs.Prelude.{Result, Ok, Err}
 
 -- "J (Julian, number 1) and G (Gregorian, number 2)"; "O is style number 3 and a line's letter"
 abbrev pub style_number : Style → ℕ
@@ -41,28 +40,23 @@ wholly Julian = J
 wholly Gregorian = G
 
 -- refusal 1: "a style .. number given to a public call is not in its list"
-unfoldable pub style_of : ℕ → StyleAnswer
+unfoldable pub style_of : ℕ → Result Style Refusal
 style_of n =
-    cond (eqb n (style_number J)) (Known J)
-    (cond (eqb n (style_number G)) (Known G)
-    (cond (eqb n (style_number O)) (Known O)
-    (NoStyle Name)))
-
--- the refusal's number, or 0 where there is none
-abbrev pub style_refusal : StyleAnswer → ℕ
-style_refusal (Known s) = 0
-style_refusal (NoStyle x) = refusal_number x
+    cond (eqb n (style_number J)) (Ok J)
+    (cond (eqb n (style_number G)) (Ok G)
+    (cond (eqb n (style_number O)) (Ok O)
+    (Err Name)))
 
 -- the style's number, or 0 where it is refused
-abbrev pub style_or_zero : StyleAnswer → ℕ
-style_or_zero (Known s) = style_number s
-style_or_zero (NoStyle x) = 0
+abbrev pub style_or_zero : Result Style Refusal → ℕ
+style_or_zero (Ok s) = style_number s
+style_or_zero (Err x) = 0
 
 -- a call that is given a style's number: refused where that names no style, and else the call in the style
 module _ {ℓ} {A : Type ℓ} where
-  abbrev pub in_style : (Refusal → A) → (Style → A) → StyleAnswer → A
-  in_style refused call (Known s) = call s
-  in_style refused call (NoStyle x) = refused x
+  abbrev pub in_style : (Refusal → A) → (Style → A) → Result Style Refusal → A
+  in_style refused call (Ok s) = call s
+  in_style refused call (Err x) = refused x
 
 -- the tests of a call that is given a style's number: where that names no style, it is not passed and is the only one
 abbrev pub by_number : (Style → List Test) → ℕ → List Test

@@ -1,6 +1,6 @@
 -- Weekdays.
 use Rattle.std.specs.Prelude.{Bool, ℕ, suc, pred, ◌+◌, ◌%◌, eqb}
-use Rattle.calendar.specs.Refusal.{refusal_number, checked}
+use Rattle.calendar.specs.Refusal.{checked}
 use Rattle.calendar.specs.Search.{first_of}
 use Rattle.calendar.specs.Span.{span_tests}
 use Rattle.calendar.specs.Style.{dates_by, style_of, in_style}
@@ -9,8 +9,8 @@ use Rattle.calendar.specs.declared.weekday.Side.TheVariants.{After, Before}
 use Rattle.calendar.specs.declared.weekday.Side.{Side}
 use Rattle.calendar.specs.declared.weekday.Start.TheVariants.{Counted, Uncounted}
 use Rattle.calendar.specs.declared.weekday.Start.{Start}
-use Rattle.calendar.specs.declared.weekday.WeekdayAnswer.TheVariants.{Weekday, NoWeekday}
-use Rattle.calendar.specs.declared.weekday.WeekdayAnswer.{WeekdayAnswer}
+use Rattle.std.specs.Prelude.{Result, Ok, Err}
+use Rattle.calendar.specs.declared.refusal.Refusal.{Refusal}
 
 -- "1 Monday to 7 Sunday, as in ISO 8601: the day number's remainder by 7, plus 1"
 abbrev pub weekday : ℕ → ℕ
@@ -20,22 +20,12 @@ abbrev pub sunday : ℕ
 sunday = 7
 
 -- "The call takes a style and a day of that style's span.": refused by 6
-abbrev pub weekday_in_style : Style → ℕ → WeekdayAnswer
-weekday_in_style s n = checked NoWeekday (Weekday (weekday n)) (span_tests (dates_by s) n)
+abbrev pub weekday_in_style : Style → ℕ → Result ℕ Refusal
+weekday_in_style s n = checked Err (Ok (weekday n)) (span_tests (dates_by s) n)
 
 -- weekday in the style with the number k: refused by 1, and else as in the style
-abbrev pub weekday_of_day : ℕ → ℕ → WeekdayAnswer
-weekday_of_day k n = in_style NoWeekday (λ s. weekday_in_style s n) (style_of k)
-
--- "one answers the refusal, or 0 if there is none"
-abbrev pub weekday_refusal : WeekdayAnswer → ℕ
-weekday_refusal (Weekday w) = 0
-weekday_refusal (NoWeekday x) = refusal_number x
-
--- "the other answers the .. weekday, or 0 if the first refuses"
-abbrev pub weekday_or_zero : WeekdayAnswer → ℕ
-weekday_or_zero (Weekday w) = w
-weekday_or_zero (NoWeekday x) = 0
+abbrev pub weekday_of_day : ℕ → ℕ → Result ℕ Refusal
+weekday_of_day k n = in_style Err (λ s. weekday_in_style s n) (style_of k)
 
 -- the next day on a side; before the day 0 it is 0 again
 abbrev pub neighbour : Side → ℕ → ℕ

@@ -6,15 +6,16 @@ ghost use Rattle.calendar.specs.Date.{IsDateInCalendar, IsDateInStyle, IsDateOfD
 
 use crate::range::is_between;
 use crate::refusal::Refusal;
-use crate::span::{DayAnswer, day_within, is_in_span};
-use crate::style::{Calendar, Style, StyleAnswer, dates_by, style_of};
+use crate::span::{day_within, is_in_span};
+use crate::style::{Calendar, Style};
 use crate::year::{NamedYear, is_leap, is_served, new_year, year_at};
 
-// A date, or why there is none.
-#[derive(Clone, Copy)]
-pub enum DateAnswer {
-    On { year: u64, month: u64, day: u64 },
-    NoDate(Refusal),
+// A year, a month of it and a day of that month.
+#[derive(Clone, Copy, PartialEq, Eq)]
+pub struct CalendarDate {
+    pub year: u64,
+    pub month: u64,
+    pub day: u64,
 }
 
 // The days of each month of a common year.
@@ -97,34 +98,30 @@ fn day_number(calendar: Calendar, year: u64, month: u64, day: u64) -> u64
 }
 
 // The day of a date of a calendar.
-pub fn day_in_calendar(calendar: Calendar, year: u64, month: u64, day: u64) -> DayAnswer
+pub fn day_in_calendar(calendar: Calendar, year: u64, month: u64, day: u64) -> Result<u32, Refusal>
     ensures { result ≡ day_in_calendar calendar year month day }
 {
     if !is_served(calendar, year) {
-        return DayAnswer::NoDay(Refusal::Year);
+        return Err(Refusal::Year);
     }
     if !is_date(calendar, year, month, day) {
-        return DayAnswer::NoDay(Refusal::Date);
+        return Err(Refusal::Date);
     }
     day_within(calendar, day_number(calendar, year, month, day))
 }
 
 // The day of a date of a named year.
-pub fn day_in_year(named: NamedYear, month: u64, day: u64) -> DayAnswer
+pub fn day_in_year(named: NamedYear, month: u64, day: u64) -> Result<u32, Refusal>
     ensures { result ≡ day_in_year named month day }
 {
-    let style = named.style;
-    day_in_calendar(dates_by(style), named.year, month, day)
+    day_in_calendar(named.style.dates_by(), named.year, month, day)
 }
 
 // Date to day: refused by 1, 4, 5 or 6.
-pub fn day_of_date(style: u64, year: u64, month: u64, day: u64) -> DayAnswer
+pub fn day_of_date(style: u64, year: u64, month: u64, day: u64) -> Result<u32, Refusal>
     ensures { result ≡ day_of_date style year month day }
 {
-    match style_of(style) {
-        StyleAnswer::Known(known) => day_in_calendar(dates_by(known), year, month, day),
-        StyleAnswer::NoStyle(refusal) => DayAnswer::NoDay(refusal),
-    }
+    day_in_calendar(Style::try_from(style)?.dates_by(), year, month, day)
 }
 
 // The month that holds a day of a year, the year's days counted from 0.
@@ -144,36 +141,33 @@ fn month_at(leap_year: bool, day_of_year: u64) -> u64
 }
 
 // The date of a day of a calendar.
-fn date_in_calendar(calendar: Calendar, day: u64) -> DateAnswer
+fn date_in_calendar(calendar: Calendar, day: u64) -> Result<CalendarDate, Refusal>
     ensures { IsDateInCalendar calendar day result }
 {
     if !is_in_span(calendar, day) {
-        return DateAnswer::NoDate(Refusal::Span);
+        return Err(Refusal::Span);
     }
     let year = year_at(calendar, day);
     let day_of_year = day - new_year(calendar, year);
     let leap_year = is_leap(calendar, year);
     let month = month_at(leap_year, day_of_year);
-    DateAnswer::On {
+    Ok(CalendarDate {
         year,
         month,
         day: day_of_year - days_before(leap_year, month) + 1,
-    }
+    })
 }
 
 // The date of a day of a style.
-pub fn date_in_style(style: Style, day: u64) -> DateAnswer
+pub fn date_in_style(style: Style, day: u64) -> Result<CalendarDate, Refusal>
     ensures { IsDateInStyle style day result }
 {
-    date_in_calendar(dates_by(style), day)
+    date_in_calendar(style.dates_by(), day)
 }
 
 // Day to date: refused by 1 or 6.
-pub fn date_of_day(style: u64, day: u64) -> DateAnswer
+pub fn date_of_day(style: u64, day: u64) -> Result<CalendarDate, Refusal>
     ensures { IsDateOfDay style day result }
 {
-    match style_of(style) {
-        StyleAnswer::Known(known) => date_in_style(known, day),
-        StyleAnswer::NoStyle(refusal) => DateAnswer::NoDate(refusal),
-    }
+    date_in_style(Style::try_from(style)?, day)
 }

@@ -1,9 +1,9 @@
 // Refusals and their numbers.
 ghost use Rattle.std.specs.Prelude.{◌≡◌};
-ghost use Rattle.calendar.specs.Refusal.{refusal_number};
+ghost use Rattle.calendar.specs.Refusal.{refusal_number, refusal_or_zero, number_or_refusal};
 
 // Why a call is refused.
-#[derive(Clone, Copy)]
+#[derive(Clone, Copy, PartialEq, Eq)]
 pub enum Refusal {
     // A style or feast number is not in its list.
     Name,
@@ -22,16 +22,38 @@ pub enum Refusal {
 }
 
 // The number that a caller is told.
-pub fn refusal_number(refusal: Refusal) -> u32
-    ensures { result ≡ refusal_number refusal }
+impl From<Refusal> for u32 {
+    ghost from_gives = { λ refusal number. number ≡ refusal_number refusal };
+
+    fn from(refusal: Refusal) -> u32 {
+        match refusal {
+            Refusal::Name => 1,
+            Refusal::Length => 2,
+            Refusal::Form => 3,
+            Refusal::Year => 4,
+            Refusal::Date => 5,
+            Refusal::Span => 6,
+            Refusal::Encoding => 9,
+        }
+    }
+}
+
+// The one number of an answer: its own, or the refusal's.
+pub fn number_or_refusal(answer: Result<u32, Refusal>) -> u32
+    ensures { result ≡ number_or_refusal answer }
 {
-    match refusal {
-        Refusal::Name => 1,
-        Refusal::Length => 2,
-        Refusal::Form => 3,
-        Refusal::Year => 4,
-        Refusal::Date => 5,
-        Refusal::Span => 6,
-        Refusal::Encoding => 9,
+    match answer {
+        Ok(number) => number,
+        Err(refusal) => u32::from(refusal),
+    }
+}
+
+// The number of an answer that is refused, or 0 where it is not.
+pub fn refusal_or_zero<T: Copy>(answer: Result<T, Refusal>) -> u32
+    ensures { result ≡ refusal_or_zero answer }
+{
+    match answer {
+        Ok(_) => 0,
+        Err(refusal) => u32::from(refusal),
     }
 }

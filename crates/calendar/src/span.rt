@@ -1,17 +1,10 @@
 // The days that a style may name, by the calendar that its dates go by.
 ghost use Rattle.std.specs.Prelude.{◌≡◌};
-ghost use Rattle.calendar.specs.Span.{first_day, last_day, in_span, within, day_or_refusal};
+ghost use Rattle.calendar.specs.Span.{first_day, last_day, in_span, within};
 
 use crate::range::is_between;
-use crate::refusal::{Refusal, refusal_number};
+use crate::refusal::Refusal;
 use crate::style::Calendar;
-
-// A day, or why there is none.
-#[derive(Clone, Copy)]
-pub enum DayAnswer {
-    Day(u32),
-    NoDay(Refusal),
-}
 
 // The first day of the span.
 fn first_day(calendar: Calendar) -> u64
@@ -41,21 +34,11 @@ pub(crate) fn is_in_span(calendar: Calendar, day: u64) -> bool
 }
 
 // The day itself where the span has it.
-pub fn day_within(calendar: Calendar, day: u64) -> DayAnswer
+pub fn day_within(calendar: Calendar, day: u64) -> Result<u32, Refusal>
     ensures { result ≡ within calendar day }
 {
     if !is_in_span(calendar, day) {
-        return DayAnswer::NoDay(Refusal::Span);
+        return Err(Refusal::Span);
     }
-    DayAnswer::Day(day as u32)
-}
-
-// The one number of an answer: the day, or the refusal's.
-pub fn day_or_refusal(answer: DayAnswer) -> u32
-    ensures { result ≡ day_or_refusal answer }
-{
-    match answer {
-        DayAnswer::Day(day) => day,
-        DayAnswer::NoDay(refusal) => refusal_number(refusal),
-    }
+    Ok(day as u32)
 }

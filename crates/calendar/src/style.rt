@@ -5,14 +5,14 @@ ghost use Rattle.calendar.specs.Style.{style_letter, dates_by, easter_by, style_
 use crate::refusal::Refusal;
 
 // A calendar.
-#[derive(Clone, Copy)]
+#[derive(Clone, Copy, PartialEq, Eq)]
 pub enum Calendar {
     Julian,
     Gregorian,
 }
 
 // A style of dating.
-#[derive(Clone, Copy)]
+#[derive(Clone, Copy, PartialEq, Eq)]
 pub enum Style {
     // The Julian calendar.
     J,
@@ -22,55 +22,54 @@ pub enum Style {
     O,
 }
 
-// A style, or why there is none.
-#[derive(Clone, Copy)]
-pub enum StyleAnswer {
-    Known(Style),
-    NoStyle(Refusal),
-}
-
 // The style that has a number.
-#[tactic(auto, unfolding(crate::specs::Style::style_of))]
-pub fn style_of(number: u64) -> StyleAnswer
-    ensures { result ≡ style_of number }
-{
-    match number {
-        1 => StyleAnswer::Known(Style::J),
-        2 => StyleAnswer::Known(Style::G),
-        3 => StyleAnswer::Known(Style::O),
-        _ => StyleAnswer::NoStyle(Refusal::Name),
+impl TryFrom<u64> for Style {
+    type Error = Refusal;
+
+    ghost try_from_gives = { λ number answer. answer ≡ style_of number };
+
+    #[tactic(auto, unfolding(crate::specs::Style::style_of))]
+    fn try_from(number: u64) -> Result<Style, Refusal> {
+        match number {
+            1 => Ok(Style::J),
+            2 => Ok(Style::G),
+            3 => Ok(Style::O),
+            _ => Err(Refusal::Name),
+        }
     }
 }
 
-// The calendar that a style's dates go by.
-pub fn dates_by(style: Style) -> Calendar
-    ensures { result ≡ dates_by style }
-{
-    match style {
-        Style::J => Calendar::Julian,
-        Style::G => Calendar::Gregorian,
-        Style::O => Calendar::Gregorian,
+impl Style {
+    // The calendar that its dates go by.
+    pub fn dates_by(self) -> Calendar
+        ensures { result ≡ dates_by self }
+    {
+        match self {
+            Style::J => Calendar::Julian,
+            Style::G => Calendar::Gregorian,
+            Style::O => Calendar::Gregorian,
+        }
     }
-}
 
-// The calendar that a style's Easter goes by.
-pub fn easter_by(style: Style) -> Calendar
-    ensures { result ≡ easter_by style }
-{
-    match style {
-        Style::J => Calendar::Julian,
-        Style::G => Calendar::Gregorian,
-        Style::O => Calendar::Julian,
+    // The calendar that its Easter goes by.
+    pub fn easter_by(self) -> Calendar
+        ensures { result ≡ easter_by self }
+    {
+        match self {
+            Style::J => Calendar::Julian,
+            Style::G => Calendar::Gregorian,
+            Style::O => Calendar::Julian,
+        }
     }
-}
 
-// The byte of a style's letter.
-pub fn style_letter(style: Style) -> u8
-    ensures { result ≡ style_letter style }
-{
-    match style {
-        Style::J => b'J',
-        Style::G => b'G',
-        Style::O => b'O',
+    // The byte of its letter.
+    pub fn letter(self) -> u8
+        ensures { result ≡ style_letter self }
+    {
+        match self {
+            Style::J => b'J',
+            Style::G => b'G',
+            Style::O => b'O',
+        }
     }
 }

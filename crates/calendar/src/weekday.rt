@@ -1,69 +1,39 @@
 // Weekdays, from 1 for Monday to 7 for Sunday.
 ghost use Rattle.std.specs.Prelude.{◌≡◌};
 ghost use Rattle.calendar.specs.Steps.{latest_of_seven};
-ghost use Rattle.calendar.specs.Weekday.{weekday_in_style, weekday_of_day, weekday_refusal, weekday_or_zero, first_weekday};
+ghost use Rattle.calendar.specs.Weekday.{weekday_in_style, weekday_of_day, first_weekday};
 
 use crate::range::is_between;
-use crate::refusal::{Refusal, refusal_number};
+use crate::refusal::Refusal;
 use crate::span::is_in_span;
-use crate::style::{Style, StyleAnswer, dates_by, style_of};
-
-// A weekday, or why there is none.
-#[derive(Clone, Copy)]
-pub enum WeekdayAnswer {
-    Weekday(u32),
-    NoWeekday(Refusal),
-}
+use crate::style::Style;
 
 // The weekday of a day of a style.
-pub fn weekday_in_style(style: Style, day: u64) -> WeekdayAnswer
+pub fn weekday_in_style(style: Style, day: u64) -> Result<u32, Refusal>
     ensures { result ≡ weekday_in_style style day }
 {
-    if !is_in_span(dates_by(style), day) {
-        return WeekdayAnswer::NoWeekday(Refusal::Span);
+    if !is_in_span(style.dates_by(), day) {
+        return Err(Refusal::Span);
     }
-    WeekdayAnswer::Weekday((day % 7 + 1) as u32)
+    Ok((day % 7 + 1) as u32)
 }
 
 // Weekday: refused by 1 or 6.
-pub fn weekday_of_day(style: u64, day: u64) -> WeekdayAnswer
+pub fn weekday_of_day(style: u64, day: u64) -> Result<u32, Refusal>
     ensures { result ≡ weekday_of_day style day }
 {
-    match style_of(style) {
-        StyleAnswer::Known(known) => weekday_in_style(known, day),
-        StyleAnswer::NoStyle(refusal) => WeekdayAnswer::NoWeekday(refusal),
-    }
-}
-
-// The refusal's number, or 0 where there is none.
-pub fn weekday_refusal(answer: WeekdayAnswer) -> u32
-    ensures { result ≡ weekday_refusal answer }
-{
-    match answer {
-        WeekdayAnswer::Weekday(_) => 0,
-        WeekdayAnswer::NoWeekday(refusal) => refusal_number(refusal),
-    }
-}
-
-// The weekday, or 0 where it is refused.
-pub fn weekday_or_zero(answer: WeekdayAnswer) -> u32
-    ensures { result ≡ weekday_or_zero answer }
-{
-    match answer {
-        WeekdayAnswer::Weekday(weekday) => weekday,
-        WeekdayAnswer::NoWeekday(_) => 0,
-    }
+    weekday_in_style(Style::try_from(style)?, day)
 }
 
 // The side of a day on which a weekday is looked for.
-#[derive(Clone, Copy)]
+#[derive(Clone, Copy, PartialEq, Eq)]
 pub enum Side {
     After,
     Before,
 }
 
 // Whether the day from which a weekday is looked for counts.
-#[derive(Clone, Copy)]
+#[derive(Clone, Copy, PartialEq, Eq)]
 pub enum Start {
     Counted,
     Uncounted,

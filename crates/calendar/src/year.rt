@@ -12,7 +12,7 @@ const J_NEW_YEAR: u64 = 1721424;
 const G_NEW_YEAR: u64 = 1721426;
 
 // A style and a year of it.
-#[derive(Clone, Copy)]
+#[derive(Clone, Copy, PartialEq, Eq)]
 pub struct NamedYear {
     pub style: Style,
     pub year: u64,

@@ -26,9 +26,9 @@ pub use Rattle.church.proofs.period.Laws.{epact_closed, same_limit, same_key, sa
 pub use Rattle.church.proofs.sheet.Laws.{one_answer_in_year}
 use Rattle.calendar.specs.Date.{is_date, day_number}
 use Rattle.calendar.specs.Range.{between}
-use Rattle.calendar.specs.Refusal.{Holds, Lowest}
+use Rattle.calendar.specs.Refusal.{Holds, Lowest, refusal_or_zero, number_or_refusal}
 use Rattle.calendar.specs.Return.{ReturnsAfter, DiffersAfter, weekday_period}
-use Rattle.calendar.specs.Span.{earliest, day_or_refusal}
+use Rattle.calendar.specs.Span.{earliest}
 use Rattle.calendar.specs.Style.{style_number, dates_by, easter_by, wholly, style_of, by_number}
 use Rattle.calendar.specs.Weekday.{weekday, sunday}
 use Rattle.calendar.specs.Year.{named, leap}
@@ -39,36 +39,36 @@ use Rattle.church.specs.Epact.{golden, hundreds, gregorian_sum, epact, arabic}
 use Rattle.church.specs.Feast.{◌is◌, on_or_in_leap_years, feasts, feast_of, rule, advent_sunday, rule_number, feast_tests, feast_in_year, feast_of_year}
 use Rattle.church.specs.Letter.{letter_of, Part, first, second, in_part, SundayLetter}
 use Rattle.church.specs.Period.{period, shorter, SameLetters, TablesReturn}
-use Rattle.church.specs.Sheet.{IsSheetOf, IsSheetOfYear, sheet_refusal, yes, sheet_numbers}
-use Rattle.calendar.specs.declared.span.DayAnswer.TheVariants.{Day, NoDay}
+use Rattle.church.specs.Sheet.{IsSheetOf, IsSheetOfYear, yes, sheet_numbers}
 use Rattle.calendar.specs.declared.style.Calendar.TheVariants.{Gregorian}
 use Rattle.calendar.specs.declared.style.Calendar.{Calendar}
 use Rattle.calendar.specs.declared.style.Style.TheVariants.{J, G, O}
 use Rattle.calendar.specs.declared.style.Style.{Style}
 use Rattle.calendar.specs.declared.year.NamedYear.{NamedYear}
-use Rattle.church.specs.declared.sheet.SheetAnswer.TheVariants.{Sheet, NoSheet}
-use Rattle.church.specs.declared.sheet.SheetAnswer.{SheetAnswer}
+use Rattle.std.specs.Prelude.{Result, Ok, Err}
+use Rattle.calendar.specs.declared.refusal.Refusal.{Refusal}
+use Rattle.church.specs.declared.sheet.YearSheet.{YearSheet}
 
 -- Any two answers that the year sheet may give are equal, in a style (`one_answer_in_year`) and by its number.
-pub one_answer : (k y : ℕ) (r r' : SheetAnswer) → IsSheetOfYear k y r → IsSheetOfYear k y r' → r ≡ r'
+pub one_answer : (k y : ℕ) (r r' : Result YearSheet Refusal) → IsSheetOfYear k y r → IsSheetOfYear k y r' → r ≡ r'
 one_answer k y r r' h h' = both_in (style_of k) (λ s. one_answer_in_year (named s y) r r') (λ x p q. p ∙ sym q) h h'
 
 -- "The lowest number that holds is given, and none otherwise": the sheet and a feast are refused by n exactly when it is that.
-pub sheet_refused : (k y n : ℕ) (r : SheetAnswer) → 1 ≤ n → IsSheetOfYear k y r
-    → (sheet_refusal r ≡ n) ↔ Lowest (Holds (by_number (λ s. easter_tests (dates_by s) y) k)) n
+pub sheet_refused : (k y n : ℕ) (r : Result YearSheet Refusal) → 1 ≤ n → IsSheetOfYear k y r
+    → (refusal_or_zero r ≡ n) ↔ Lowest (Holds (by_number (λ s. easter_tests (dates_by s) y) k)) n
 sheet_refused k y n r some h =
-    given_of_any (λ x. r ≡ NoSheet x) (λ s. IsSheetOf (named s y) r) (sheet_refusal r) (λ x. ap sheet_refusal) n (λ s. easter_tests (dates_by s) y) (λ s. tt)
+    given_of_any (λ x. r ≡ Err x) (λ s. IsSheetOf (named s y) r) (refusal_or_zero r) (λ x. ap refusal_or_zero) n (λ s. easter_tests (dates_by s) y) (λ s. tt)
     (λ s. is_sheet (named s y) r) k h
   where
-    is_sheet : (t : NamedYear) (r : SheetAnswer) → IsSheetOf t r → sheet_refusal r ≡ n → ⊥
-    is_sheet t (Sheet q) h e = omega arith
-    is_sheet t (NoSheet x) h e = h
+    is_sheet : (t : NamedYear) (r : Result YearSheet Refusal) → IsSheetOf t r → refusal_or_zero r ≡ n → ⊥
+    is_sheet t (Ok q) h e = omega arith
+    is_sheet t (Err x) h e = h
 
 pub feast_refused : (k f y n : ℕ) → n < earliest
-    → (day_or_refusal (feast_of_year k f y) ≡ n) ↔ Lowest (Holds (by_number (λ s. feast_tests (named s y) f) k)) n
+    → (number_or_refusal (feast_of_year k f y) ≡ n) ↔ Lowest (Holds (by_number (λ s. feast_tests (named s y) f) k)) n
 unfolding feast_in_year
 feast_refused k f y n low =
-    given_by_number day_or_refusal NoDay (λ x. refl) n (λ s. Day (rule_number (rule f) s y)) (λ s. feast_tests (named s y) f) (λ s. tt)
+    given_by_number number_or_refusal Err (λ x. refl) n (λ s. Ok (rule_number (rule f) s y)) (λ s. feast_tests (named s y) f) (λ s. tt)
     (λ s all e. omega (arith, span_small (dates_by s) (rule_number (rule f) s y) all.1.1.1.0)) k
 
 -- A G epact is the remainder by 30 of its sum, also where that is negative.
@@ -120,14 +120,14 @@ numbers_of s y l l' =
     let c = easter_by s in
     yes (leap (dates_by s) y) ∷ golden y ∷ epact c y ∷ yes (arabic c y) ∷ l ∷ l' ∷ limit c y ∷ key s y ∷ easter c y ∷ []
 
-pub sheet_numbers_lem : (s : Style) (y l l' : ℕ) (r : SheetAnswer) → has_easter (dates_by s) y ≡ true → IsSheetOfYear (style_number s) y r
+pub sheet_numbers_lem : (s : Style) (y l l' : ℕ) (r : Result YearSheet Refusal) → has_easter (dates_by s) y ≡ true → IsSheetOfYear (style_number s) y r
     → SundayLetter (dates_by s) y first l → SundayLetter (dates_by s) y second l' → sheet_numbers r ≡ numbers_of s y l l'
 sheet_numbers_lem s y l l' r has h f g = go r (rw (by_number_lem s, has) at h)
   where
-    go : (r : SheetAnswer) → IsSheetOf (named s y) r
+    go : (r : Result YearSheet Refusal) → IsSheetOf (named s y) r
         → sheet_numbers r ≡ numbers_of s y l l'
-    go (NoSheet x) k = absurd k
-    go (Sheet q) k =
+    go (Err x) k = absurd k
+    go (Ok q) k =
         rw (
           k.its_leap,
           k.its_golden,
@@ -159,7 +159,7 @@ forty_eight = refl
 
 -- In a year that has an Easter every feast has its day.
 pub feast_answered : (s : Style) (y f : ℕ) → has_easter (dates_by s) y ≡ true → between 1 f 48 ≡ true
-    → feast_of_year (style_number s) f y ≡ Day (rule_number (rule f) s y)
+    → feast_of_year (style_number s) f y ≡ Ok (rule_number (rule f) s y)
 feast_answered s y f h e = rw by_number_lem (feast_laws.feast_answered s y f h e)
 
 -- The Easter of O, and every feast that hangs on it, is that of J: styles whose Easter goes by one calendar keep what hangs on it on the same days

@@ -10,13 +10,13 @@ use Rattle.calendar.specs.Weekday.{sunday, first_weekday}
 use Rattle.calendar.specs.Year.{named, leap, served}
 use Rattle.church.specs.Easter.{easter, has_easter}
 use Rattle.calendar.specs.declared.refusal.Refusal.TheVariants.{Name, Year, Date, Span}
-use Rattle.calendar.specs.declared.span.DayAnswer.TheVariants.{Day, NoDay}
-use Rattle.calendar.specs.declared.span.DayAnswer.{DayAnswer}
 use Rattle.calendar.specs.declared.style.Calendar.{Calendar}
 use Rattle.calendar.specs.declared.style.Style.{Style}
 use Rattle.calendar.specs.declared.weekday.Side.TheVariants.{After}
 use Rattle.calendar.specs.declared.weekday.Start.TheVariants.{Counted}
 use Rattle.calendar.specs.declared.year.NamedYear.{NamedYear}
+use Rattle.std.specs.Prelude.{Result, Ok, Err}
+use Rattle.calendar.specs.declared.refusal.Refusal.{Refusal}
 
 -- a number of days with its sign
 infix 69 -◌
@@ -142,17 +142,17 @@ rule_tests t r =
     ∷ []
 
 -- the day of a rule in the named year t, refused by 4, 5 or 6
-abbrev pub rule_day : NamedYear → Rule → DayAnswer
-rule_day t r = checked NoDay (Day (rule_number r t.style t.year)) (rule_tests t r)
+abbrev pub rule_day : NamedYear → Rule → Result ℕ Refusal
+rule_day t r = checked Err (Ok (rule_number r t.style t.year)) (rule_tests t r)
 
 -- the tests of the feast with the number f: refusal 1, "a .. feast number given to a public call is not in its list", and those of its rule
 abbrev pub feast_tests : NamedYear → ℕ → List Test
 feast_tests t f = Name unless between 1 f 48 ∷ rule_tests t (rule f)
 
 -- the day of the feast with the number f in the named year t, refused by 1, 4, 5 or 6
-unfoldable pub feast_in_year : NamedYear → ℕ → DayAnswer
-feast_in_year t f = checked NoDay (Day (rule_number (rule f) t.style t.year)) (feast_tests t f)
+unfoldable pub feast_in_year : NamedYear → ℕ → Result ℕ Refusal
+feast_in_year t f = checked Err (Ok (rule_number (rule f) t.style t.year)) (feast_tests t f)
 
 -- feast in the style with the number k: refused by 1, and else as in the style
-abbrev pub feast_of_year : ℕ → ℕ → ℕ → DayAnswer
-feast_of_year k f y = in_style NoDay (λ s. feast_in_year (named s y) f) (style_of k)
+abbrev pub feast_of_year : ℕ → ℕ → ℕ → Result ℕ Refusal
+feast_of_year k f y = in_style Err (λ s. feast_in_year (named s y) f) (style_of k)

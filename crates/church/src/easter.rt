@@ -1,10 +1,9 @@
 // The limit and Easter.
-ghost use Rattle.std.specs.Prelude.{◌≡◌, ◌+◌, ◌-◌, ◌≤◌};
+ghost use Rattle.std.specs.Prelude.{◌≡◌, ◌+◌, ◌-◌, ◌≤◌, Ok, Err};
 ghost use Rattle.calendar.specs.Refusal.{checked};
 ghost use Rattle.calendar.specs.Span.{earliest, latest};
 ghost use Rattle.calendar.specs.Style.{dates_by, easter_by};
 ghost use Rattle.calendar.specs.Weekday.{sunday, first_weekday};
-ghost use Rattle.calendar.specs.declared.span.DayAnswer.TheVariants.{Day, NoDay};
 ghost use Rattle.calendar.specs.declared.weekday.Side.TheVariants.{After};
 ghost use Rattle.calendar.specs.declared.weekday.Start.TheVariants.{Uncounted};
 ghost use Rattle.church.specs.Easter.{limit, march, easter, has_easter, easter_tests};
@@ -14,8 +13,7 @@ use crate::epact::golden_number;
 use calendar::date::day_in_calendar;
 use calendar::range::is_between;
 use calendar::refusal::Refusal;
-use calendar::span::DayAnswer;
-use calendar::style::{Calendar, dates_by, easter_by};
+use calendar::style::Calendar;
 use calendar::weekday::{Side, Start, first_weekday};
 use calendar::year::NamedYear;
 
@@ -49,14 +47,11 @@ pub(crate) fn has_easter(calendar: Calendar, year: u64) -> bool
 }
 
 // The day of 21 March, where the year's Easter is answered if dates go by the calendar, and else 4.
-pub(crate) fn equinox(calendar: Calendar, year: u64) -> DayAnswer
-    ensures { result ≡ checked NoDay (Day (march calendar year 21)) (easter_tests calendar year) }
+pub(crate) fn equinox(calendar: Calendar, year: u64) -> Result<u32, Refusal>
+    ensures { result ≡ checked Err (Ok (march calendar year 21)) (easter_tests calendar year) }
 {
-    match day_in_calendar(calendar, year, 3, 21) {
-        DayAnswer::Day(day) => DayAnswer::Day(day),
-        // The year is not served, or it is 1582 of G, whose 21 March lies before the span.
-        DayAnswer::NoDay(_) => DayAnswer::NoDay(Refusal::Year),
-    }
+    // Else the year is not served, or it is 1582 of G, whose 21 March lies before the span.
+    day_in_calendar(calendar, year, 3, 21).map_err(|_| Refusal::Year)
 }
 
 // The first Sunday after a limit of the year whose 21 March is given.
@@ -69,20 +64,17 @@ pub(crate) fn easter_after(equinox: u32, limit: u64) -> u32
 }
 
 // Easter, where the year's is answered, and else 4.
-pub(crate) fn easter_of_year(named: NamedYear) -> DayAnswer
-    ensures { result ≡ checked NoDay (Day (easter (easter_by named.style) named.year)) (easter_tests (dates_by named.style) named.year) }
+pub(crate) fn easter_of_year(named: NamedYear) -> Result<u32, Refusal>
+    ensures { result ≡ checked Err (Ok (easter (easter_by named.style) named.year)) (easter_tests (dates_by named.style) named.year) }
 {
     let style = named.style;
     let year = named.year;
-    let date_calendar = dates_by(style);
+    let date_calendar = style.dates_by();
     if !has_easter(date_calendar, year) {
-        return DayAnswer::NoDay(Refusal::Year);
+        return Err(Refusal::Year);
     }
-    let easter_calendar = easter_by(style);
-    let answer = equinox(easter_calendar, year);
+    let easter_calendar = style.easter_by();
     // No style has a year of its dates for which the calendar of its Easter has none.
-    let DayAnswer::Day(equinox) = answer else {
-        return answer;
-    };
-    DayAnswer::Day(easter_after(equinox, limit_of_year(easter_calendar, year)))
+    let equinox = equinox(easter_calendar, year)?;
+    Ok(easter_after(equinox, limit_of_year(easter_calendar, year)))
 }

@@ -7,8 +7,8 @@ use crate::easter::{SUNDAY, easter_of_year};
 use calendar::date::day_in_year;
 use calendar::range::is_between;
 use calendar::refusal::Refusal;
-use calendar::span::{DayAnswer, day_within};
-use calendar::style::{Style, StyleAnswer, dates_by, style_of};
+use calendar::span::day_within;
+use calendar::style::Style;
 use calendar::weekday::{Side, Start, first_weekday};
 use calendar::year::{NamedYear, is_leap};
 
@@ -68,29 +68,24 @@ const FIXED_DATES: [u16; 24] = [
 ];
 
 // The day of a feast that hangs on Easter.
-fn hung_on_easter(named: NamedYear, feast: u64) -> DayAnswer
+fn hung_on_easter(named: NamedYear, feast: u64) -> Result<u32, Refusal>
     requires { (1 ≤ feast) × (feast ≤ 23) }
     ensures { result ≡ rule_day named (rule feast) }
 {
-    let answer = easter_of_year(named);
-    let DayAnswer::Day(easter) = answer else {
-        return answer;
-    };
-    let style = named.style;
+    let easter = easter_of_year(named)?;
     let i = (feast - 1) as usize;
-    day_within(dates_by(style), easter as u64 + FROM_EASTER[i] as u64 - 63)
+    day_within(named.style.dates_by(), easter as u64 + FROM_EASTER[i] as u64 - 63)
 }
 
 // The day of a feast that has a date.
-fn fixed_in_year(named: NamedYear, feast: u64) -> DayAnswer
+fn fixed_in_year(named: NamedYear, feast: u64) -> Result<u32, Refusal>
     requires { (24 ≤ feast) × (feast ≤ 47) }
     ensures { result ≡ rule_day named (rule feast) }
 {
     let i = (feast - 24) as usize;
     let date = FIXED_DATES[i] as u64;
-    let style = named.style;
     // Whether the year is leap is asked only for a feast that is a day later in leap years.
-    let later = if date >= 512 && is_leap(dates_by(style), named.year) {
+    let later = if date >= 512 && is_leap(named.style.dates_by(), named.year) {
         1
     } else {
         0
@@ -99,27 +94,23 @@ fn fixed_in_year(named: NamedYear, feast: u64) -> DayAnswer
 }
 
 // Advent, the first Sunday on or after 27 November.
-fn advent_of_year(named: NamedYear) -> DayAnswer
+fn advent_of_year(named: NamedYear) -> Result<u32, Refusal>
     ensures { result ≡ rule_day named advent }
 {
-    let answer = day_in_year(named, 11, 27);
-    let DayAnswer::Day(day) = answer else {
-        return answer;
-    };
-    let style = named.style;
+    let day = day_in_year(named, 11, 27)?;
     day_within(
-        dates_by(style),
+        named.style.dates_by(),
         first_weekday(Start::Counted, Side::After, SUNDAY, day),
     )
 }
 
 // The day of a feast of a year; its style and year come by themselves, which are handed on in registers, as a record is not.
-fn feast_by(style: Style, year: u64, feast: u64) -> DayAnswer
+fn feast_by(style: Style, year: u64, feast: u64) -> Result<u32, Refusal>
     ensures { result ≡ feast_in_year (named style year) feast }
 {
     let named = NamedYear { style, year };
     if !is_between(1, feast, 48) {
-        return DayAnswer::NoDay(Refusal::Name);
+        return Err(Refusal::Name);
     }
     if feast < 24 {
         return hung_on_easter(named, feast);
@@ -131,19 +122,15 @@ fn feast_by(style: Style, year: u64, feast: u64) -> DayAnswer
 }
 
 // The day of a feast of a named year.
-pub fn feast_in_year(named: NamedYear, feast: u64) -> DayAnswer
+pub fn feast_in_year(named: NamedYear, feast: u64) -> Result<u32, Refusal>
     ensures { result ≡ feast_in_year named feast }
 {
-    let style = named.style;
-    feast_by(style, named.year, feast)
+    feast_by(named.style, named.year, feast)
 }
 
 // Feast: refused by 1, 4 or 6.
-pub fn feast_of_year(style: u64, feast: u64, year: u64) -> DayAnswer
+pub fn feast_of_year(style: u64, feast: u64, year: u64) -> Result<u32, Refusal>
     ensures { result ≡ feast_of_year style feast year }
 {
-    match style_of(style) {
-        StyleAnswer::Known(known) => feast_by(known, year, feast),
-        StyleAnswer::NoStyle(refusal) => DayAnswer::NoDay(refusal),
-    }
+    feast_by(Style::try_from(style)?, year, feast)
 }

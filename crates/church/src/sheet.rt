@@ -5,8 +5,7 @@ use crate::easter::{easter_of_year, equinox, limit_of_year};
 use crate::epact::{epact_number, golden_number, is_arabic};
 use crate::letter::{SundayLetters, first_letter, second_letter};
 use calendar::refusal::Refusal;
-use calendar::span::DayAnswer;
-use calendar::style::{StyleAnswer, dates_by, easter_by, style_of};
+use calendar::style::Style;
 use calendar::year::{NamedYear, is_leap};
 
 // What the church's tables tell of a year.
@@ -26,35 +25,22 @@ pub struct YearSheet {
     pub easter: u32,
 }
 
-// A year's sheet, or why there is none.
-#[derive(Clone, Copy)]
-pub enum SheetAnswer {
-    Sheet(YearSheet),
-    NoSheet(Refusal),
-}
-
 // The sheet of a named year.
-pub fn sheet_in_year(named: NamedYear) -> SheetAnswer
+pub fn sheet_in_year(named: NamedYear) -> Result<YearSheet, Refusal>
     ensures { IsSheetInYear named result }
 {
     let style = named.style;
     let year = named.year;
-    let easter = match easter_of_year(named) {
-        DayAnswer::Day(day) => day,
-        DayAnswer::NoDay(refusal) => return SheetAnswer::NoSheet(refusal),
-    };
-    let date_calendar = dates_by(style);
-    let easter_calendar = easter_by(style);
-    let equinox = match equinox(date_calendar, year) {
-        DayAnswer::Day(day) => day,
-        DayAnswer::NoDay(refusal) => return SheetAnswer::NoSheet(refusal),
-    };
+    let easter = easter_of_year(named)?;
+    let date_calendar = style.dates_by();
+    let easter_calendar = style.easter_by();
+    let equinox = equinox(date_calendar, year)?;
     let first = first_letter(date_calendar, year, equinox);
     let second = second_letter(date_calendar, year, equinox);
     let epact = epact_number(easter_calendar, year);
     let limit = limit_of_year(easter_calendar, year);
     let key = (easter - equinox) as u64;
-    SheetAnswer::Sheet(YearSheet {
+    Ok(YearSheet {
         leap: is_leap(date_calendar, year),
         golden: golden_number(year),
         epact,
@@ -67,11 +53,8 @@ pub fn sheet_in_year(named: NamedYear) -> SheetAnswer
 }
 
 // Year sheet: refused by 1 or 4.
-pub fn sheet_of_year(style: u64, year: u64) -> SheetAnswer
+pub fn sheet_of_year(style: u64, year: u64) -> Result<YearSheet, Refusal>
     ensures { IsSheetOfYear style year result }
 {
-    match style_of(style) {
-        StyleAnswer::Known(known) => sheet_in_year(NamedYear { style: known, year }),
-        StyleAnswer::NoStyle(refusal) => SheetAnswer::NoSheet(refusal),
-    }
+    sheet_in_year(NamedYear { style: Style::try_from(style)?, year })
 }

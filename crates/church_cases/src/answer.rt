@@ -1,11 +1,11 @@
 // A call's answer, put behind the call into a buffer and printed by one write. Each function that
 // puts takes the place to begin at and answers the place behind; what has no room is left out.
 use crate::call::{Call, call_of};
-use calendar::refusal::refusal_number;
-use calendar::span::day_or_refusal;
+use calendar::refusal::number_or_refusal;
 use church::feast::feast_of_year;
-use church::sheet::{SheetAnswer, YearSheet, sheet_of_year};
+use church::sheet::{YearSheet, sheet_of_year};
 use itoa::Buffer;
+ghost use Rattle.calendar.specs.Refusal.{number_or_refusal};
 
 // The room for a printed line; the longest has fewer than 600 bytes.
 const ROOM: usize = 1024;
@@ -65,14 +65,14 @@ fn put_fields(out: &mut [u8; ROOM], at: usize, sheet: YearSheet) -> usize {
 
 fn put_sheet(out: &mut [u8; ROOM], at: usize, style: u64, year: u64) -> usize {
     match sheet_of_year(style, year) {
-        SheetAnswer::Sheet(sheet) => put_fields(out, at, sheet),
-        SheetAnswer::NoSheet(refusal) => put_number(out, at, refusal_number(refusal) as u64),
+        Ok(sheet) => put_fields(out, at, sheet),
+        Err(refusal) => put_number(out, at, u32::from(refusal) as u64),
     }
 }
 
 // The day of a feast, or the refusal's number.
 fn feast_number(style: u64, feast: u64, year: u64) -> u64 {
-    day_or_refusal(feast_of_year(style, feast, year)) as u64
+    number_or_refusal(feast_of_year(style, feast, year)) as u64
 }
 
 fn put_feasts(out: &mut [u8; ROOM], at: usize, style: u64, year: u64) -> usize {

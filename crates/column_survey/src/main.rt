@@ -4,9 +4,9 @@
 
 mod column;
 
-use calendar::style::{Style, easter_by};
+use calendar::style::Style;
 use calendar::year::NamedYear;
-use church::sheet::{SheetAnswer, sheet_in_year};
+use church::sheet::sheet_in_year;
 use column::luna_one;
 use std::num::wrapping_add_u64;
 
@@ -27,11 +27,11 @@ fn days_to(day: u64) -> u64 {
 // The tally with one more year.
 fn with_year(named: NamedYear, tally: Tally) -> Tally {
     let answer = sheet_in_year(named);
-    let SheetAnswer::Sheet(sheet) = answer else {
+    let Ok(sheet) = answer else {
         return tally;
     };
     let style = named.style;
-    let luna = luna_one(easter_by(style), named.year, sheet.epact, sheet.arabic);
+    let luna = luna_one(style.easter_by(), named.year, sheet.epact, sheet.arabic);
     // The limit is thirteen days after Luna I.
     let same = if wrapping_add_u64(luna, 13) == sheet.limit {
         1

@@ -29,8 +29,8 @@ use Rattle.dating.proofs.writer.Laws.{text_length, seven_bytes, reads_back, one_
 pub use Rattle.dating.proofs.writer.Laws.{one_writing_in_style}
 use Rattle.calendar.specs.Date.{day_in_calendar, day_in_year}
 use Rattle.calendar.specs.Range.{between}
-use Rattle.calendar.specs.Refusal.{refusal_number, Holds, Lowest}
-use Rattle.calendar.specs.Span.{earliest, latest, in_span, day_or_refusal}
+use Rattle.calendar.specs.Refusal.{refusal_number, Holds, Lowest, number_or_refusal}
+use Rattle.calendar.specs.Span.{earliest, latest, in_span}
 use Rattle.calendar.specs.Style.{style_number, dates_by, style_of, by_number}
 use Rattle.church.specs.Feast.{feast_in_year}
 use Rattle.words.specs.Numeral.{field}
@@ -40,15 +40,12 @@ use Rattle.dating.specs.Answer.{refused_text, IsAnswer, dated, refused, PutsText
 use Rattle.dating.specs.Line.{Line, spell_line, GoodLine, line_day, length_fits, unfit, fit, IsDayOfLine, LineHolds, IsNumberOfLine}
 use Rattle.dating.specs.Part.{anchor_part, line_part, Part, IsPart, PartOf}
 use Rattle.dating.specs.Phrase.{plain, anchor_of, comes_to, stays_in, year_served, date_there, start_day, phrase_tests, phrase_day}
-use Rattle.dating.specs.Writer.{IsDateText, bytes_or_refusal, write_tests, Refuses, Puts, Writes}
+use Rattle.dating.specs.Writer.{IsDateText, write_tests, Refuses, Puts, Writes}
 use Rattle.calendar.specs.declared.refusal.Refusal.TheVariants.{Length, Form}
 use Rattle.calendar.specs.declared.refusal.Refusal.{Refusal}
-use Rattle.calendar.specs.declared.span.DayAnswer.TheVariants.{Day, NoDay}
-use Rattle.calendar.specs.declared.span.DayAnswer.{DayAnswer}
 use Rattle.calendar.specs.declared.style.Style.{Style}
 use Rattle.calendar.specs.declared.year.NamedYear.{NamedYear}
-use Rattle.dating.specs.declared.writer.WriteAnswer.TheVariants.{Bytes}
-use Rattle.dating.specs.declared.writer.WriteAnswer.{WriteAnswer}
+use Rattle.std.specs.Prelude.{Result, Ok, Err}
 
 -- Any two parts that may be handed out are the same bytes at the same place.
 pub one_part : (x r q : Bor (List ℕ)) → PartOf x r → PartOf x q → (r.now ≡ q.now) × (r.ref_ptr ≡ q.ref_ptr)
@@ -59,7 +56,7 @@ one_part x r q h k =
     (h.contents ∙ ap (λ (p : Part). p.text) same ∙ sym k.contents, λ i. (blocks i, offsets i))
 
 -- The part of an accepted line is not empty.
-pub part_some : (s : List ℕ) (n : ℕ) (p : Part) → IsDayOfLine s (Day n) → IsPart s p → 1 ≤ length p.text
+pub part_some : (s : List ℕ) (n : ℕ) (p : Part) → IsDayOfLine s (Ok n) → IsPart s p → 1 ≤ length p.text
 unfolding line_part
 part_some s n p (unfit h m) part = no_day Length n (sym m)
 part_some s n p (fit h (unproduced none m)) part = no_day Form n (sym m)
@@ -94,38 +91,38 @@ pub record Accepted (s : List ℕ) (n : ℕ) : Type 0 where
   pub day : comes_to line.phrase (start_day line.named line.phrase) ≡ n
 
 -- A line is answered by a day exactly when it is accepted with it.
-pub accepted : (s : List ℕ) (n : ℕ) → IsDayOfLine s (Day n) ↔ Accepted s n
+pub accepted : (s : List ℕ) (n : ℕ) → IsDayOfLine s (Ok n) ↔ Accepted s n
 unfolding line_day phrase_day
 accepted s n =
     (forth, λ k. fit k.fits (produced k.line k.good k.spelled (sym (rw (k.year, k.date, k.way, k.day) refl))))
   where
-    forth : IsDayOfLine s (Day n) → Accepted s n
+    forth : IsDayOfLine s (Ok n) → Accepted s n
     forth (unfit b m) = no_day Length n (sym m)
     forth (fit b (unproduced none m)) = no_day Form n (sym m)
     forth (fit b (produced l g e m)) =
         let k = passed (phrase_tests l.named l.phrase) _ n (sym m) in
         record { fits = b; line = l; good = g; spelled = e; year = k.0.0; date = k.0.1.0; way = k.0.1.1.0; day = k.1 }
 
-day_number_lem : (a : DayAnswer) (n : ℕ) → earliest ≤ n → n ≡ day_or_refusal a → Day n ≡ a
-day_number_lem (Day m) n h e = ap Day e
-day_number_lem (NoDay x) n h e = absurd (omega (arith, refusal_digit x))
+day_number_lem : (a : Result ℕ Refusal) (n : ℕ) → earliest ≤ n → n ≡ number_or_refusal a → Ok n ≡ a
+day_number_lem (Ok m) n h e = ap Ok e
+day_number_lem (Err x) n h e = absurd (omega (arith, refusal_digit x))
 
 -- A line's one number is a day, which is a number from 1721424 on, exactly when the line is accepted with it.
 pub accepted_number : (s : List ℕ) (n : ℕ) → earliest ≤ n → IsNumberOfLine s n ↔ Accepted s n
-accepted_number s n h = (λ k. (accepted s n).0 (forth k), λ k. line_map day_or_refusal (Day n) ((accepted s n).1 k))
+accepted_number s n h = (λ k. (accepted s n).0 (forth k), λ k. line_map number_or_refusal (Ok n) ((accepted s n).1 k))
   where
-    forth : IsNumberOfLine s n → IsDayOfLine s (Day n)
-    forth (unfit b m) = unfit b (day_number_lem (NoDay Length) n h m)
-    forth (fit b (unproduced none m)) = fit b (unproduced none (day_number_lem (NoDay Form) n h m))
+    forth : IsNumberOfLine s n → IsDayOfLine s (Ok n)
+    forth (unfit b m) = unfit b (day_number_lem (Err Length) n h m)
+    forth (fit b (unproduced none m)) = fit b (unproduced none (day_number_lem (Err Form) n h m))
     forth (fit b (produced l g e m)) = fit b (produced l g e (day_number_lem (line_day l) n h m))
 
 -- the number of a line of the grammar, by its tests
-by_tests : (l : Line) (n : ℕ) → n < earliest → (day_or_refusal (line_day l) ≡ n) ↔ Lowest (Holds (phrase_tests l.named l.phrase)) n
+by_tests : (l : Line) (n : ℕ) → n < earliest → (number_or_refusal (line_day l) ≡ n) ↔ Lowest (Holds (phrase_tests l.named l.phrase)) n
 unfolding line_day phrase_day
 by_tests l n low =
     let t = l.named in
     let p = l.phrase in
-    given day_or_refusal NoDay (λ x. refl) n (Day (comes_to p (start_day t p))) 0 (phrase_tests t p) tt
+    given number_or_refusal Err (λ x. refl) n (Ok (comes_to p (start_day t p))) 0 (phrase_tests t p) tt
     (λ all e. omega (arith, span_small (dates_by t.style) _ (stays_last (dates_by t.style) p (start_day t p) all.1.1.0)))
 
 -- the numbers that may hold of a line of the grammar, and of any bytes
@@ -181,41 +178,41 @@ line_numbers s n h =
     ]
 
 -- Any two results of the writer are one: the same answer, and the same bytes in the buffer; in a style `one_writing_in_style`.
-pub one_writing : (k n : ℕ) (before a b : List ℕ) (r q : WriteAnswer) → Writes before a r k n → Writes before b q k n → (r ≡ q) × (a ≡ b)
+pub one_writing : (k n : ℕ) (before a b : List ℕ) (r q : Result ℕ Refusal) → Writes before a r k n → Writes before b q k n → (r ≡ q) × (a ≡ b)
 one_writing k n before a b r q h g = both_in (style_of k) (λ s. one_writing_in_style before a b r q s n) (one_refusal before a b r q) h g
 
 -- "The lowest number that holds is given, and none otherwise": the writer is refused by j exactly when it is that.
-pub write_refused : (k n j : ℕ) (before after : List ℕ) (r : WriteAnswer) → j < 7 → Writes before after r k n
-    → (bytes_or_refusal r ≡ j) ↔ Lowest (Holds (by_number (λ s. write_tests (length before) s n) k)) j
+pub write_refused : (k n j : ℕ) (before after : List ℕ) (r : Result ℕ Refusal) → j < 7 → Writes before after r k n
+    → (number_or_refusal r ≡ j) ↔ Lowest (Holds (by_number (λ s. write_tests (length before) s n) k)) j
 write_refused k n j before after r small h =
-    given_of_any (Refuses before after r) (λ s. (w : List ℕ) × (IsDateText s n w × Puts before after r w)) (bytes_or_refusal r)
-    (λ x h. ap bytes_or_refusal h.0) j (λ s. write_tests (length before) s n) (λ s. tt)
-    (λ s h e. omega (arith, ap bytes_or_refusal h.1.1.0, seven_bytes s n h.0 h.1.0)) k h
+    given_of_any (Refuses before after r) (λ s. (w : List ℕ) × (IsDateText s n w × Puts before after r w)) (number_or_refusal r)
+    (λ x h. ap number_or_refusal h.0) j (λ s. write_tests (length before) s n) (λ s. tt)
+    (λ s h e. omega (arith, ap number_or_refusal h.1.1.0, seven_bytes s n h.0 h.1.0)) k h
 
 -- A date is written with 7 to 12 bytes, so that the number of bytes is no refusal's.
 pub written_bytes : (s : Style) (n : ℕ) (w : List ℕ) → IsDateText s n w → (7 ≤ length w) × (length w ≤ 12)
 written_bytes s n w t = (seven_bytes s n w t, text_length s n w t)
 
 -- Every day of a style's span is written where the buffer has 12 bytes, and the bytes written, read as a dating line, give the same day.
-pub read_back : (s : Style) (n : ℕ) (before after : List ℕ) (r : WriteAnswer) → 12 ≤ length before → in_span (dates_by s) n ≡ true
-    → Writes before after r (style_number s) n → (c : ℕ) × ((r ≡ Bytes c) × IsDayOfLine (take c after) (Day n))
+pub read_back : (s : Style) (n : ℕ) (before after : List ℕ) (r : Result ℕ Refusal) → 12 ≤ length before → in_span (dates_by s) n ≡ true
+    → Writes before after r (style_number s) n → (c : ℕ) × ((r ≡ Ok c) × IsDayOfLine (take c after) (Ok n))
 read_back s n before after r room i h = go (rw (by_number_lem s, le-leb 12 (length before) room, i) at h)
   where
-    go : (w : List ℕ) × (IsDateText s n w × Puts before after r w) → (c : ℕ) × ((r ≡ Bytes c) × IsDayOfLine (take c after) (Day n))
+    go : (w : List ℕ) × (IsDateText s n w × Puts before after r w) → (c : ℕ) × ((r ≡ Ok c) × IsDayOfLine (take c after) (Ok n))
     go k =
         let written = ap (take (length k.0)) k.1.1.1 ∙ take-append_seam k.0 (drop (length k.0) before) in
-        (length k.0, (k.1.1.0, subst (λ (x : List ℕ). IsDayOfLine x (Day n)) (sym written) (reads_back s n k.0 k.1.0)))
+        (length k.0, (k.1.1.0, subst (λ (x : List ℕ). IsDayOfLine x (Ok n)) (sym written) (reads_back s n k.0 k.1.0)))
 
 -- A line has no two answers as text.
 pub one_text : (s t u : List ℕ) → IsAnswer s t → IsAnswer s u → t ≡ u
 one_text s t u (refused x h p) (refused x' h' q) =
-    let same = one_answer (NoDay x) (NoDay x') h h' in
+    let same = one_answer (Err x) (Err x') h h' in
     let its : x ≡ x' = cc in
     p ∙ ap refused_text its ∙ sym q
-one_text s t u (refused x h p) (dated y n h' k q) = no_day x n (one_answer (NoDay x) (Day n) h h')
-one_text s t u (dated y n h k p) (refused x h' q) = no_day x n (one_answer (NoDay x) (Day n) h' h)
+one_text s t u (refused x h p) (dated y n h' k q) = no_day x n (one_answer (Err x) (Ok n) h h')
+one_text s t u (dated y n h k p) (refused x h' q) = no_day x n (one_answer (Err x) (Ok n) h' h)
 one_text s t u (dated y n h (l, (g, (e, st))) p) (dated y' n' h' (l', (g', (e', st'))) q) =
-    let same = one_answer (Day n) (Day n') h h' in
+    let same = one_answer (Ok n) (Ok n') h h' in
     let day : n ≡ n' = cc in
     let style : y ≡ y' = sym st ∙ ap (λ (l : Line). l.named.style) (one_reading l l' g g' (e ∙ sym e')) ∙ st' in
     one_dated y' n' t u (rw (style, day) at p) q

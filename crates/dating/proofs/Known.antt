@@ -11,9 +11,9 @@ use Rattle.calendar.proofs.Table.{All, none, ◌also◌}
 use Rattle.church.proofs.letter.Laws.{sundays}
 use Rattle.calendar.specs.Date.{days_of_months, is_date, day_number}
 use Rattle.calendar.specs.Range.{between}
-use Rattle.calendar.specs.Refusal.{checked}
+use Rattle.calendar.specs.Refusal.{checked, number_or_refusal}
 use Rattle.calendar.specs.Search.{first_of}
-use Rattle.calendar.specs.Span.{in_span, day_or_refusal}
+use Rattle.calendar.specs.Span.{in_span}
 use Rattle.calendar.specs.Weekday.{weekday, first_weekday}
 use Rattle.calendar.specs.Year.{named, days_of_years, new_year, served}
 use Rattle.church.specs.Column.{stands, luna}
@@ -26,13 +26,13 @@ use Rattle.words.specs.Told.{produced}
 use Rattle.dating.specs.Anchor.{date, spell_anchor, GoodAnchor}
 use Rattle.dating.specs.Line.{ending, GoodYear, spell_line, line_day, fit, IsNumberOfLine}
 use Rattle.dating.specs.Phrase.{Phrase, plain, wrapped, spell_phrase, GoodPhrase, anchor_of, comes_to, stays_in, start_day, phrase_tests, phrase_day}
-use Rattle.calendar.specs.declared.span.DayAnswer.TheVariants.{Day, NoDay}
 use Rattle.calendar.specs.declared.style.Calendar.TheVariants.{Julian, Gregorian}
 use Rattle.calendar.specs.declared.style.Calendar.{Calendar}
 use Rattle.calendar.specs.declared.style.Style.TheVariants.{J, G}
 use Rattle.calendar.specs.declared.style.Style.{Style}
 use Rattle.calendar.specs.declared.year.NamedYear.{NamedYear}
 use Rattle.words.specs.declared.wrapper.Wrapper.TheVariants.{Eve, Morrow}
+use Rattle.std.specs.Prelude.{Ok, Err}
 
 -- what is said of a year, of a line, which is answered by a day or a refusal, and of a day
 pub data Row : Type 0 where
@@ -99,7 +99,7 @@ table =
 
 -- a line holds by its tree, the phrase p in the named year t
 read : {w : List ℕ} {n : ℕ} (p : Phrase) (t : NamedYear) → between 1 (length w) 120 ≡ true → GoodPhrase p → GoodYear t
-    → spell_phrase p ++ ending t ≡ w → n ≡ day_or_refusal (checked NoDay (Day (comes_to p (start_day t p))) (phrase_tests t p)) → IsNumberOfLine w n
+    → spell_phrase p ++ ending t ≡ w → n ≡ number_or_refusal (checked Err (Ok (comes_to p (start_day t p))) (phrase_tests t p)) → IsNumberOfLine w n
 unfolding spell_line line_day phrase_day
 read p t fits good year spelled told = fit fits (produced (record { phrase = p; named = t }) (record { phrase = good; year = year }) spelled told)
 

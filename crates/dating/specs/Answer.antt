@@ -9,8 +9,8 @@ use Rattle.words.specs.Text.{space}
 use Rattle.dating.specs.Line.{Line, GoodLine, spell_line, IsDayOfLine}
 use Rattle.dating.specs.Writer.{IsDateText}
 use Rattle.calendar.specs.declared.refusal.Refusal.{Refusal}
-use Rattle.calendar.specs.declared.span.DayAnswer.TheVariants.{Day, NoDay}
 use Rattle.calendar.specs.declared.style.Style.{Style}
+use Rattle.std.specs.Prelude.{Ok, Err}
 
 abbrev pub line_feed : ℕ
 line_feed = code "\n"
@@ -34,8 +34,8 @@ IsOfStyle s y = (l : Line) × (GoodLine l × ((spell_line l ≡ s) × (l.named.s
 
 -- t is the answer to the line s
 pub data IsAnswer (s t : List ℕ) : Type 0 where
-  dated : (y : Style) (n : ℕ) → IsDayOfLine s (Day n) → IsOfStyle s y → DatedText y n t → IsAnswer s t
-  refused : (x : Refusal) → IsDayOfLine s (NoDay x) → t ≡ refused_text x → IsAnswer s t
+  dated : (y : Style) (n : ℕ) → IsDayOfLine s (Ok n) → IsOfStyle s y → DatedText y n t → IsAnswer s t
+  refused : (x : Refusal) → IsDayOfLine s (Err x) → t ≡ refused_text x → IsAnswer s t
 
 -- the text t is put at the place i of a buffer, and r is its length
 abbrev pub PutsText : ℕ → (before after : List ℕ) → ℕ → List ℕ → Type 0

@@ -1,8 +1,7 @@
 -- The dating line: a phrase, a year and a style letter.
 use Rattle.std.specs.Prelude.{Bool, true, false, List, [], ◌∷◌, ◌++◌, ◌⊎◌, ◌≡◌, ℕ, ◌≤◌, length}
 use Rattle.calendar.specs.Range.{between}
-use Rattle.calendar.specs.Refusal.{refusal_number, Holds}
-use Rattle.calendar.specs.Span.{day_or_refusal}
+use Rattle.calendar.specs.Refusal.{refusal_number, Holds, number_or_refusal}
 use Rattle.calendar.specs.Style.{style_letter}
 use Rattle.words.specs.Numeral.{numeral}
 use Rattle.words.specs.Text.{space}
@@ -10,9 +9,8 @@ use Rattle.words.specs.Told.{Grammar, Told}
 use Rattle.dating.specs.Phrase.{Phrase, spell_phrase, GoodPhrase, phrase_tests, phrase_day}
 use Rattle.calendar.specs.declared.refusal.Refusal.TheVariants.{Length, Form}
 use Rattle.calendar.specs.declared.refusal.Refusal.{Refusal}
-use Rattle.calendar.specs.declared.span.DayAnswer.TheVariants.{NoDay}
-use Rattle.calendar.specs.declared.span.DayAnswer.{DayAnswer}
 use Rattle.calendar.specs.declared.year.NamedYear.{NamedYear}
+use Rattle.std.specs.Prelude.{Result, Err}
 
 -- a phrase in a named year
 pub record Line : Type 0 where
@@ -38,7 +36,7 @@ pub record GoodLine (l : Line) : Type 0 where
 abbrev pub lines : Grammar
 lines = record { Tree = Line; Good = GoodLine; spell = spell_line }
 
-unfoldable pub line_day : Line → DayAnswer
+unfoldable pub line_day : Line → Result ℕ Refusal
 line_day l = phrase_day l.named l.phrase
 
 -- s has 1 to 120 bytes; else refusal 2: "a dating line has 0 or more than 120 bytes"
@@ -52,8 +50,8 @@ pub data LineTold {R : Type 0} (meaning : Line → R) (refused : Refusal → R) 
   fit : length_fits s ≡ true → Told lines meaning (refused Form) s r → LineTold meaning refused s r
 
 -- r is the day of the line s, or the refusal
-abbrev pub IsDayOfLine : List ℕ → DayAnswer → Type 0
-IsDayOfLine = LineTold line_day NoDay
+abbrev pub IsDayOfLine : List ℕ → Result ℕ Refusal → Type 0
+IsDayOfLine = LineTold line_day Err
 
 -- the refusal x holds of the line s: by its length, by its form, or by the tests of the line that is spelled so
 abbrev pub LineHolds : List ℕ → Refusal → Type 0
@@ -64,4 +62,4 @@ LineHolds s x =
 
 -- n is the one number of the answer to the line s
 abbrev pub IsNumberOfLine : List ℕ → ℕ → Type 0
-IsNumberOfLine = LineTold (λ l. day_or_refusal (line_day l)) refusal_number
+IsNumberOfLine = LineTold (λ l. number_or_refusal (line_day l)) refusal_number

@@ -5,9 +5,9 @@ use Rattle.words.specs.Wrapper.{wrapper_words}
 use Rattle.dating.specs.Anchor.{spell_anchor}
 use Rattle.dating.specs.Line.{Line, line_day, LineTold}
 use Rattle.dating.specs.Phrase.{Phrase, plain, wrapped, anchor_of}
-use Rattle.calendar.specs.declared.span.DayAnswer.TheVariants.{Day, NoDay}
-use Rattle.calendar.specs.declared.span.DayAnswer.{DayAnswer}
 use Rattle.dating.specs.declared.part.Place.{Place}
+use Rattle.std.specs.Prelude.{Result, Ok, Err}
+use Rattle.calendar.specs.declared.refusal.Refusal.{Refusal}
 
 -- a part of a line: where it begins, and its bytes
 pub record Part : Type 0 where
@@ -28,9 +28,9 @@ abbrev pub empty_part : Part
 empty_part = record { start = 0; text = [] }
 
 -- a part for an accepted line; "for a refused line it is the empty part"
-abbrev pub if_accepted : DayAnswer → Part → Part
-if_accepted (Day n) p = p
-if_accepted (NoDay x) p = empty_part
+abbrev pub if_accepted : Result ℕ Refusal → Part → Part
+if_accepted (Ok n) p = p
+if_accepted (Err x) p = empty_part
 
 unfoldable pub line_part : Line → Part
 line_part l = if_accepted (line_day l) (anchor_part l.phrase)

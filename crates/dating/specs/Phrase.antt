@@ -8,11 +8,11 @@ use Rattle.words.specs.Wrapper.{wrapper_words, GoodWrapper}
 use Rattle.dating.specs.Act.{moved}
 use Rattle.dating.specs.Anchor.{Anchor, spell_anchor, GoodAnchor, anchor_rule}
 use Rattle.calendar.specs.declared.refusal.Refusal.TheVariants.{Year, Date, Span}
-use Rattle.calendar.specs.declared.span.DayAnswer.TheVariants.{Day, NoDay}
-use Rattle.calendar.specs.declared.span.DayAnswer.{DayAnswer}
 use Rattle.calendar.specs.declared.style.Calendar.{Calendar}
 use Rattle.calendar.specs.declared.year.NamedYear.{NamedYear}
 use Rattle.words.specs.declared.wrapper.Wrapper.{Wrapper}
+use Rattle.std.specs.Prelude.{Result, Ok, Err}
+use Rattle.calendar.specs.declared.refusal.Refusal.{Refusal}
 
 -- "A phrase is a feast word, or a date, or one of these before a phrase"
 pub data Phrase : Type 0 where
@@ -59,5 +59,5 @@ module _ (t : NamedYear) (p : Phrase) where
   phrase_tests = Year unless year_served ∷ Date unless date_there ∷ Span unless stays_in (dates_by t.style) p start_day ∷ []
 
   -- its day, refused by 4, 5 or 6
-  unfoldable pub phrase_day : DayAnswer
-  phrase_day = checked NoDay (Day (comes_to p start_day)) phrase_tests
+  unfoldable pub phrase_day : Result ℕ Refusal
+  phrase_day = checked Err (Ok (comes_to p start_day)) phrase_tests

@@ -9,8 +9,6 @@ use Rattle.dating.specs.Answer.{DatedText}
 use Rattle.dating.specs.Line.{Line, ending, GoodYear, spell_line, GoodLine, line_day, length_fits, IsDayOfLine}
 use Rattle.dating.specs.Phrase.{Phrase, spell_phrase, GoodPhrase}
 use Rattle.dating.specs.Writer.{IsDateText}
-use Rattle.calendar.specs.declared.span.DayAnswer.TheVariants.{Day, NoDay}
-use Rattle.calendar.specs.declared.span.DayAnswer.{DayAnswer}
 use Rattle.calendar.specs.declared.style.Style.TheVariants.{J, G, O}
 use Rattle.calendar.specs.declared.style.Style.{Style}
 use Rattle.calendar.specs.declared.weekday.Side.TheVariants.{After, Before}
@@ -22,6 +20,8 @@ use Rattle.dating.specs.declared.line.Ending.{Ending}
 use Rattle.dating.specs.declared.line.Ending.TheVariants.{At}
 use Rattle.dating.specs.declared.line.Reading.TheVariants.{Dated, Refused}
 use Rattle.dating.specs.declared.line.Reading.{Reading}
+use Rattle.std.specs.Prelude.{Result, Ok, Err}
+use Rattle.calendar.specs.declared.refusal.Refusal.{Refusal}
 
 -- whether the starting day counts, and which side is searched, by the number of a weekday's wrapper
 abbrev pub start_of : ℕ → Start
@@ -34,7 +34,7 @@ abbrev pub anchors : Grammar
 anchors = record { Tree = Anchor; Good = GoodAnchor; spell = spell_anchor }
 
 -- the day of a feast word or date in the named year t
-unfoldable pub anchor_day : NamedYear → Anchor → DayAnswer
+unfoldable pub anchor_day : NamedYear → Anchor → Result ℕ Refusal
 anchor_day t a = rule_day t (anchor_rule a)
 
 abbrev pub phrases : Grammar
@@ -66,14 +66,14 @@ pub record ReadFrom (s : List ℕ) (y : Style) (n k : ℕ) : Type 0 where
   pub line : Line
   pub good : GoodLine line
   pub spelled : spell_line line ≡ s
-  pub day : line_day line ≡ Day n
+  pub day : line_day line ≡ Ok n
   pub style : line.named.style ≡ y
   pub phrase : length (spell_phrase line.phrase) ≡ k
 
 -- r is the reading of the line s
 abbrev pub IsReading : List ℕ → Reading → Type 0
 IsReading s (Dated y n k) = ReadFrom s y n k
-IsReading s (Refused x) = IsDayOfLine s (NoDay x)
+IsReading s (Refused x) = IsDayOfLine s (Err x)
 
 -- the bytes w are put at the place i of a buffer, and r is the place behind them
 pub record Put (before : List ℕ) (i : ℕ) (w after : List ℕ) (r : ℕ) : Type 0 where

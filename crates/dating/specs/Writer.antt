@@ -9,11 +9,9 @@ use Rattle.words.specs.Numeral.{field}
 use Rattle.words.specs.Text.{space, point, over}
 use Rattle.calendar.specs.declared.refusal.Refusal.{Refusal}
 use Rattle.calendar.specs.declared.refusal.Refusal.TheVariants.{Length, Span}
-use Rattle.calendar.specs.declared.span.DayAnswer.TheVariants.{Day}
 use Rattle.calendar.specs.declared.style.Style.{Style}
 use Rattle.calendar.specs.declared.year.NamedYear.{NamedYear}
-use Rattle.dating.specs.declared.writer.WriteAnswer.{WriteAnswer}
-use Rattle.dating.specs.declared.writer.WriteAnswer.TheVariants.{Bytes, NoBytes}
+use Rattle.std.specs.Prelude.{Result, Ok, Err}
 
 -- "day.month, space, year, space, style letter .., numbers without leading zeros"
 abbrev pub date_text : NamedYear → (month day : ℕ) → List ℕ
@@ -24,27 +22,22 @@ pub record IsDateText (s : Style) (n : ℕ) (w : List ℕ) : Type 0 where
   pub year : ℕ
   pub month : ℕ
   pub day : ℕ
-  pub is_date : day_in_year (named s year) month day ≡ Day n
+  pub is_date : day_in_year (named s year) month day ≡ Ok n
   pub text : w ≡ date_text (named s year) month day
-
--- the one number of an answer: the number of bytes, or the refusal
-abbrev pub bytes_or_refusal : WriteAnswer → ℕ
-bytes_or_refusal (Bytes n) = n
-bytes_or_refusal (NoBytes x) = refusal_number x
 
 -- the writer's tests, with so much room: refused by 2, "the writer's buffer has fewer than 12", or 6
 abbrev pub write_tests : (room : ℕ) → Style → ℕ → List Test
 write_tests room s n = Length unless leb 12 room ∷ Span unless in_span (dates_by s) n ∷ []
 
 -- a call that is lent a buffer answers r and leaves the buffer, which held the bytes before, with the bytes after
-module _ (before after : List ℕ) (r : WriteAnswer) where
+module _ (before after : List ℕ) (r : Result ℕ Refusal) where
   -- "A refused call answers its number alone .. and changes no lent byte."
   abbrev pub Refuses : Refusal → Type 0
-  Refuses x = (r ≡ NoBytes x) × (after ≡ before)
+  Refuses x = (r ≡ Err x) × (after ≡ before)
 
   -- the bytes w "at the buffer's start, .. and answers the number of bytes; later bytes stay"
   abbrev pub Puts : List ℕ → Type 0
-  Puts w = (r ≡ Bytes (length w)) × (after ≡ over w before)
+  Puts w = (r ≡ Ok (length w)) × (after ≡ over w before)
 
   -- the writer in a style
   abbrev pub WritesInStyle : Style → ℕ → Type 0

@@ -1,12 +1,11 @@
 // Wrappers move a day, and each moved day is tested against the span.
-ghost use Rattle.std.specs.Prelude.{true, ◌≡◌};
+ghost use Rattle.std.specs.Prelude.{true, ◌≡◌, Ok};
 ghost use Rattle.calendar.specs.Span.{in_span};
-ghost use Rattle.calendar.specs.declared.span.DayAnswer.TheVariants.{Day};
 ghost use Rattle.words.specs.Wrapper.{wrapper_of, GoodWrapper};
 ghost use Rattle.dating.specs.Act.{acted};
 ghost use Rattle.dating.specs.Steps.{start_of, side_of};
 
-use calendar::span::{DayAnswer, day_within};
+use calendar::span::day_within;
 use calendar::style::Calendar;
 use calendar::weekday::{Side, Start, first_weekday};
 
@@ -31,9 +30,9 @@ fn side_of(number: u64) -> Side
 }
 
 // The day that the wrapper with a number makes of a day of the span: the weekday found and the days added are both worked out, and one is taken.
-pub(crate) fn act(number: u64, calendar: Calendar, day: u32) -> DayAnswer
+pub(crate) fn act(number: u64, calendar: Calendar, day: u32) -> Result<u32, Refusal>
     requires { GoodWrapper (wrapper_of number) × (in_span calendar day ≡ true) }
-    ensures { result ≡ acted calendar (wrapper_of number) (Day day) }
+    ensures { result ≡ acted calendar (wrapper_of number) (Ok day) }
 {
     let told = number % 8;
     // A weekday in either case, so that the compiler sees that the search has one and makes no branch of it.

@@ -1,44 +1,43 @@
 // Feast words and dates, on which the wrappers act.
+ghost use Rattle.std.specs.Prelude.{Err};
 ghost use Rattle.calendar.specs.declared.refusal.Refusal.TheVariants.{Form};
-ghost use Rattle.calendar.specs.declared.span.DayAnswer.TheVariants.{NoDay};
 ghost use Rattle.words.specs.Told.{Told};
 ghost use Rattle.dating.specs.Steps.{anchors, anchor_day};
 
 use calendar::date::day_in_year;
 use calendar::refusal::Refusal;
-use calendar::span::DayAnswer;
 use calendar::year::NamedYear;
 use church::feast::feast_in_year;
 use words::numeral::short_number_of;
 use words::word::feast_of_word;
 
 // The day of a feast word or date of the named year.
-pub(crate) fn anchor_in_year(anchor: &[u8], named: NamedYear) -> DayAnswer
-    ensures { Told anchors (anchor_day named) (NoDay Form) anchor.now result }
+pub(crate) fn anchor_in_year(anchor: &[u8], named: NamedYear) -> Result<u32, Refusal>
+    ensures { Told anchors (anchor_day named) (Err Form) anchor.now result }
 {
     if anchor.len() < 3 {
-        return DayAnswer::NoDay(Refusal::Form);
+        return Err(Refusal::Form);
     }
     if anchor[0] > b'9' {
         let feast = feast_of_word(anchor);
         if feast == 0 {
-            return DayAnswer::NoDay(Refusal::Form);
+            return Err(Refusal::Form);
         }
         return feast_in_year(named, feast);
     }
     // A day of one or two digits.
     let end = if anchor[1] == b'.' { 1 } else { 2 };
     if anchor[end] != b'.' {
-        return DayAnswer::NoDay(Refusal::Form);
+        return Err(Refusal::Form);
     }
     let start = end + 1;
     let day = short_number_of(&anchor[..end], 31);
     if day == 0 {
-        return DayAnswer::NoDay(Refusal::Form);
+        return Err(Refusal::Form);
     }
     let month = short_number_of(&anchor[start..], 12);
     if month == 0 {
-        return DayAnswer::NoDay(Refusal::Form);
+        return Err(Refusal::Form);
     }
     day_in_year(named, month, day)
 }

@@ -7,7 +7,7 @@ ghost use Rattle.dating.specs.Steps.{Put, PutsDated};
 
 use crate::line::{Reading, reading_of_line};
 use crate::writer::{put_day, put_number};
-use calendar::refusal::{Refusal, refusal_number};
+use calendar::refusal::Refusal;
 use calendar::style::Style;
 use calendar::weekday::{weekday_in_style, weekday_or_zero};
 
@@ -30,7 +30,7 @@ fn put_refused(buffer: &mut [u8], at: usize, refusal: Refusal) -> usize
     requires { at + 25 ≤ length buffer.old }
     ensures { Put buffer.old at (refused_text refusal) buffer.new result }
 {
-    put_number(buffer, at, refusal_number(refusal) as u64, b'\n')
+    put_number(buffer, at, u32::from(refusal) as u64, b'\n')
 }
 
 // Puts what stands before the date in the answer of a day of the span at a place, and answers the place behind it.

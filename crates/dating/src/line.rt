@@ -7,11 +7,12 @@ ghost use Rattle.dating.specs.declared.line.Ending.TheVariants.{NoEnding};
 
 use crate::phrase::phrase_in_year;
 use calendar::refusal::Refusal;
-use calendar::span::{DayAnswer, day_or_refusal};
+use calendar::refusal::number_or_refusal;
 use calendar::style::Style;
 use calendar::year::NamedYear;
 use words::numeral::{four_digits, number_of};
 use words::text::behind_last;
+ghost use Rattle.calendar.specs.Refusal.{number_or_refusal};
 
 // The length of a line's phrase, and the year with its style that stand behind it, or none.
 #[derive(Clone, Copy)]
@@ -98,17 +99,17 @@ fn ending_of(line: &[u8]) -> Ending
 }
 
 // The day of a dating line: refused by 2, 3, 4, 5 or 6.
-pub fn day_of_line(line: &[u8]) -> DayAnswer
+pub fn day_of_line(line: &[u8]) -> Result<u32, Refusal>
     ensures { IsDayOfLine line.now result }
 {
     if line.len() == 0 {
-        return DayAnswer::NoDay(Refusal::Length);
+        return Err(Refusal::Length);
     }
     if line.len() > 120 {
-        return DayAnswer::NoDay(Refusal::Length);
+        return Err(Refusal::Length);
     }
     let Ending::At(phrase, named) = ending_of(line) else {
-        return DayAnswer::NoDay(Refusal::Form);
+        return Err(Refusal::Form);
     };
     let style = named.style;
     phrase_in_year(&line[..phrase], style, named.year)
@@ -119,14 +120,14 @@ pub(crate) fn reading_of_line(line: &[u8]) -> Reading
     ensures { IsReading line.now result }
 {
     match day_of_line(line) {
-        DayAnswer::Day(day) => {
+        Ok(day) => {
             let length = line.len();
             let style = style_of_letter(line[length - 1]);
             let end = length - 2;
             let phrase = behind_last(&line[..end], b' ') - 1;
             Reading::Dated { style, day, phrase }
         }
-        DayAnswer::NoDay(refusal) => Reading::Refused(refusal),
+        Err(refusal) => Reading::Refused(refusal),
     }
 }
 
@@ -134,5 +135,5 @@ pub(crate) fn reading_of_line(line: &[u8]) -> Reading
 pub fn number_of_line(line: &[u8]) -> u32
     ensures { IsNumberOfLine line.now result }
 {
-    day_or_refusal(day_of_line(line))
+    number_or_refusal(day_of_line(line))
 }

@@ -1,37 +1,35 @@
 // The phrase: each wrapper acts on what remains behind it, the innermost first.
-ghost use Rattle.std.specs.Prelude.{◌≤◌, length};
+ghost use Rattle.std.specs.Prelude.{◌≤◌, length, Err};
 ghost use Rattle.calendar.specs.Year.{named};
 ghost use Rattle.calendar.specs.declared.refusal.Refusal.TheVariants.{Form};
-ghost use Rattle.calendar.specs.declared.span.DayAnswer.TheVariants.{NoDay};
 ghost use Rattle.words.specs.Told.{Told};
 ghost use Rattle.dating.specs.Phrase.{phrase_day};
 ghost use Rattle.dating.specs.Steps.{phrases};
 
 use crate::act::act;
 use crate::anchor::anchor_in_year;
-use calendar::span::DayAnswer;
-use calendar::style::{Style, dates_by};
+use calendar::style::Style;
 use calendar::year::NamedYear;
 use words::wrapper::lead_of;
 
 // The day of a phrase in a year; style and year come by themselves, which are handed on in registers, as a record is not.
 // It calls itself once for each wrapper, so its depth is bounded by the phrase's length.
-pub(crate) fn phrase_in_year(phrase: &[u8], style: Style, year: u64) -> DayAnswer
+pub(crate) fn phrase_in_year(phrase: &[u8], style: Style, year: u64) -> Result<u32, Refusal>
     requires { length phrase.now ≤ 120 }
-    ensures { Told phrases (phrase_day (named style year)) (NoDay Form) phrase.now result }
+    ensures { Told phrases (phrase_day (named style year)) (Err Form) phrase.now result }
 {
     let found = lead_of(phrase);
     if found.length == 0 {
         let answer = anchor_in_year(phrase, NamedYear { style, year });
-        let DayAnswer::Day(day) = answer else {
+        let Ok(day) = answer else {
             return answer;
         };
-        return DayAnswer::Day(day);
+        return Ok(day);
     }
     let length = found.length;
     let behind = phrase_in_year(&phrase[length..], style, year);
-    let DayAnswer::Day(day) = behind else {
+    let Ok(day) = behind else {
         return behind;
     };
-    act(found.number, dates_by(style), day)
+    act(found.number, style.dates_by(), day)
 }

@@ -8,16 +8,9 @@ ghost use Rattle.dating.specs.Writer.{date_text, WritesInStyle, Writes};
 
 use calendar::date::{DateAnswer, date_in_style};
 use calendar::refusal::Refusal;
-use calendar::span::{DayAnswer, day_within};
-use calendar::style::{Style, StyleAnswer, dates_by, style_letter, style_of};
+use calendar::span::day_within;
+use calendar::style::Style;
 use calendar::year::NamedYear;
-
-// The number of bytes written, or why there are none.
-#[derive(Clone, Copy)]
-pub enum WriteAnswer {
-    Bytes(usize),
-    NoBytes(Refusal),
-}
 
 // How many digits a number has.
 fn digit_count(number: u64) -> usize
@@ -75,7 +68,7 @@ fn put_date(buffer: &mut [u8], at: usize, named: NamedYear, month: u64, day: u64
     let year_at = put_number(buffer, month_at, month, b' ');
     let letter_at = put_number(buffer, year_at, named.year, b' ');
     let style = named.style;
-    buffer[letter_at] = style_letter(style);
+    buffer[letter_at] = style.letter();
     letter_at + 1
 }
 
@@ -97,24 +90,21 @@ pub(crate) fn put_day(buffer: &mut [u8], at: usize, style: Style, day: u64) -> u
 }
 
 // The writer in a style: refused by 2 or 6.
-pub fn write_in_style(style: Style, day: u64, buffer: &mut [u8]) -> WriteAnswer
+pub fn write_in_style(style: Style, day: u64, buffer: &mut [u8]) -> Result<usize, Refusal>
     ensures { WritesInStyle buffer.old buffer.new result style day }
 {
     if buffer.len() < 12 {
-        return WriteAnswer::NoBytes(Refusal::Length);
+        return Err(Refusal::Length);
     }
-    match day_within(dates_by(style), day) {
-        DayAnswer::Day(_) => WriteAnswer::Bytes(put_day(buffer, 0, style, day)),
-        DayAnswer::NoDay(refusal) => WriteAnswer::NoBytes(refusal),
+    match day_within(style.dates_by(), day) {
+        Ok(_) => Ok(put_day(buffer, 0, style, day)),
+        Err(refusal) => Err(refusal),
     }
 }
 
 // The writer: refused by 1, 2 or 6.
-pub fn write_date(style: u64, day: u64, buffer: &mut [u8]) -> WriteAnswer
+pub fn write_date(style: u64, day: u64, buffer: &mut [u8]) -> Result<usize, Refusal>
     ensures { Writes buffer.old buffer.new result style day }
 {
-    match style_of(style) {
-        StyleAnswer::Known(known) => write_in_style(known, day, buffer),
-        StyleAnswer::NoStyle(refusal) => WriteAnswer::NoBytes(refusal),
-    }
+    write_in_style(Style::try_from(style)?, day, buffer)
 }

@@ -6,9 +6,9 @@
 
 use calendar::date::{DateAnswer, date_of_day, day_of_date};
 use calendar::distance::{distance_of_dates, distance_or_zero, distance_refusal};
-use calendar::refusal::refusal_number;
-use calendar::span::day_or_refusal;
+use calendar::refusal::number_or_refusal;
 use calendar::weekday::{weekday_of_day, weekday_or_zero, weekday_refusal};
+ghost use Rattle.calendar.specs.Refusal.{number_or_refusal};
 
 const JULIAN: u64 = 1;
 
@@ -83,7 +83,7 @@ fn ask_day(rt: &impl Print, style: u64, year: u64, month: u64, day: u64) {
     text(rt, b": ");
     answered(
         rt,
-        day_or_refusal(day_of_date(style, year, month, day)) as u64,
+        number_or_refusal(day_of_date(style, year, month, day)) as u64,
     );
 }
 
@@ -94,7 +94,7 @@ fn ask_date(rt: &impl Print, style: u64, day: u64) {
     text(rt, b": ");
     match date_of_day(style, day) {
         DateAnswer::On { year, month, day } => answered_date(rt, year, month, day),
-        DateAnswer::NoDate(refusal) => answered(rt, refusal_number(refusal) as u64),
+        DateAnswer::NoDate(refusal) => answered(rt, u32::from(refusal) as u64),
     }
 }
 

@@ -3,8 +3,7 @@
 #![tactic(auto)]
 
 use calendar::date::{DateAnswer, date_of_day, day_of_date};
-use calendar::span::DayAnswer;
-use calendar::weekday::{WeekdayAnswer, weekday_of_day};
+use calendar::weekday::weekday_of_day;
 
 const JULIAN: u64 = 1;
 
@@ -93,15 +92,15 @@ fn same_date(style: u64, number: u64, walked: Walked) -> bool {
 
 fn same_day(style: u64, number: u64, walked: Walked) -> bool {
     match day_of_date(style, walked.year, walked.month, walked.day) {
-        DayAnswer::Day(day) => day as u64 == number,
-        DayAnswer::NoDay(_) => false,
+        Ok(day) => day as u64 == number,
+        Err(_) => false,
     }
 }
 
 fn same_weekday(style: u64, number: u64, walked: Walked) -> bool {
     match weekday_of_day(style, number) {
-        WeekdayAnswer::Weekday(weekday) => weekday as u64 == walked.weekday,
-        WeekdayAnswer::NoWeekday(_) => false,
+        Ok(weekday) => weekday as u64 == walked.weekday,
+        Err(_) => false,
     }
 }
 

@@ -26,10 +26,9 @@ use Rattle.calendar.specs.declared.refusal.Refusal.{Refusal}
 use Rattle.marks.specs.declared.mark.FirstMark.TheVariants.{At, NoMark}
 use Rattle.marks.specs.declared.mark.FirstMark.{FirstMark}
 use Rattle.marks.specs.declared.mark.Mark.{Mark}
-use Rattle.marks.specs.declared.transcript.MarksAnswer.TheVariants.{Marks, NoMarks}
-use Rattle.marks.specs.declared.transcript.MarksAnswer.{MarksAnswer}
 use Rattle.marks.specs.declared.transcript.NextMark.TheVariants.{Next, NoMore}
 use Rattle.marks.specs.declared.transcript.NextMark.{NextMark}
+use Rattle.std.specs.Prelude.{Result, Ok, Err}
 
 -- Bytes are told to be UTF-8, or not, and not both.
 pub one_telling : (s : List ℕ) (r q : Bool) → TellsUtf8 s r → TellsUtf8 s q → r ≡ q
@@ -174,10 +173,10 @@ one_refusal s size r q h k =
     (both_checked (λ x. r ≡ refusal_number x) (λ x. q ≡ refusal_number x) (conditions s size) h k)
 
 -- The refusal that is told is the call's own, and 0 where it answers.
-pub refusal_told : (s b a : List ℕ) (r : MarksAnswer) (q : ℕ) → FindsMarks Marks NoMarks s b a r → TellsRefusal s (length b) q → q ≡ marks_refusal r
+pub refusal_told : (s b a : List ℕ) (r : Result ℕ Refusal) (q : ℕ) → FindsMarks Ok Err s b a r → TellsRefusal s (length b) q → q ≡ marks_refusal r
 refusal_told s b a r q h k =
     ⊎_elim (λ x. x.1.1 ∙ sym (ap marks_refusal x.1.0.0)) (λ both. both.1 ∙ sym (ap marks_refusal both.0.1.1))
-    (both_checked (λ x. (r ≡ NoMarks x) × (a ≡ b)) (λ x. q ≡ refusal_number x) (conditions s (length b)) h k)
+    (both_checked (λ x. (r ≡ Err x) × (a ≡ b)) (λ x. q ≡ refusal_number x) (conditions s (length b)) h k)
 
 -- A transcript of no bytes has no marks.
 pub no_bytes : (ms : List Mark) → AreMarks [] ms → ms ≡ []

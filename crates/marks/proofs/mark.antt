@@ -1,2 +1,3 @@
+use Rattle.std.specs.Prelude.{Ok}
 pub mod Laws
-pub mod Marks
+pub mod Ok

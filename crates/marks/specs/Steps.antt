@@ -6,8 +6,8 @@ use Rattle.marks.specs.Mark.{two, AreMarks}
 use Rattle.marks.specs.Transcript.{place_bytes, Found, Checked, conditions}
 use Rattle.marks.specs.Utf8.{CodePoint, encoded, IsUtf8}
 use Rattle.marks.specs.declared.mark.Mark.{Mark}
-use Rattle.marks.specs.declared.transcript.MarksAnswer.TheVariants.{Marks, NoMarks}
-use Rattle.marks.specs.declared.transcript.MarksAnswer.{MarksAnswer}
+use Rattle.std.specs.Prelude.{Result, Ok, Err}
+use Rattle.calendar.specs.declared.refusal.Refusal.{Refusal}
 
 -- ---- UTF-8
 -- the number of bytes by the first, and the bounds of the second, by the syntax in section 4 of RFC 3629
@@ -50,5 +50,5 @@ abbrev pub FillsPlaces : (s before after : List ℕ) → Type 0
 FillsPlaces s before after = (n : ℕ) × Found s before after n
 
 -- r is the number of marks of the transcript s, or the refusal, where places of so many bytes are lent
-abbrev pub CountsInSize : List ℕ → ℕ → MarksAnswer → Type 0
-CountsInSize s size r = Checked (λ x. r ≡ NoMarks x) ((n : ℕ) × (CountsMarks s n × (r ≡ Marks n))) (conditions s size)
+abbrev pub CountsInSize : List ℕ → ℕ → Result ℕ Refusal → Type 0
+CountsInSize s size r = Checked (λ x. r ≡ Err x) ((n : ℕ) × (CountsMarks s n × (r ≡ Ok n))) (conditions s size)

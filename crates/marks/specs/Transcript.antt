@@ -11,10 +11,9 @@ use Rattle.calendar.specs.declared.refusal.Refusal.TheVariants.{Length, Encoding
 use Rattle.calendar.specs.declared.refusal.Refusal.{Refusal}
 use Rattle.marks.specs.declared.mark.FirstMark.TheVariants.{At, NoMark}
 use Rattle.marks.specs.declared.mark.Mark.{Mark}
-use Rattle.marks.specs.declared.transcript.MarksAnswer.TheVariants.{Marks, NoMarks}
-use Rattle.marks.specs.declared.transcript.MarksAnswer.{MarksAnswer}
 use Rattle.marks.specs.declared.transcript.NextMark.TheVariants.{Next, NoMore}
 use Rattle.marks.specs.declared.transcript.NextMark.{NextMark}
+use Rattle.std.specs.Prelude.{Result, Ok, Err}
 
 -- r is the first mark of s by its place, with the characters that begin before its start and before its end; or there is none
 abbrev pub IsNextMark : List ℕ → NextMark → Type 0
@@ -79,11 +78,11 @@ abbrev pub TellsRefusal : List ℕ → ℕ → ℕ → Type 0
 TellsRefusal s size r = Checked (λ x. r ≡ refusal_number x) (r ≡ 0) (conditions s size)
 
 -- the number of marks, or 0 where they are refused
-abbrev pub marks_or_zero : MarksAnswer → ℕ
-marks_or_zero (Marks n) = n
-marks_or_zero (NoMarks x) = 0
+abbrev pub marks_or_zero : Result ℕ Refusal → ℕ
+marks_or_zero (Ok n) = n
+marks_or_zero (Err x) = 0
 
 -- the refusal's number, or 0 where there is none
-abbrev pub marks_refusal : MarksAnswer → ℕ
-marks_refusal (Marks n) = 0
-marks_refusal (NoMarks x) = refusal_number x
+abbrev pub marks_refusal : Result ℕ Refusal → ℕ
+marks_refusal (Ok n) = 0
+marks_refusal (Err x) = refusal_number x

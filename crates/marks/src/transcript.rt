@@ -1,21 +1,13 @@
 // The marks of a whole transcript, each in a place of its own.
-ghost use Rattle.std.specs.Prelude.{◌≡◌, ◌+◌, ◌≤◌, length};
+ghost use Rattle.std.specs.Prelude.{◌≡◌, ◌+◌, ◌≤◌, length, Ok, Err};
 ghost use Rattle.marks.specs.Steps.{CountsMarks, with_place, Fillable, FillsPlaces, CountsInSize};
 ghost use Rattle.marks.specs.Transcript.{IsNextMark, FindsMarks, TellsRefusal, marks_or_zero};
-ghost use Rattle.marks.specs.declared.transcript.MarksAnswer.TheVariants.{Marks, NoMarks};
 
 use crate::mark::{FirstMark, first_mark};
 use crate::utf8::{count_starts, is_utf8};
-use calendar::refusal::{Refusal, refusal_number};
+use calendar::refusal::Refusal;
 use dating::line::number_of_line;
 use places::number::put_number;
-
-// The number of marks, or why they are refused.
-#[derive(Clone, Copy)]
-pub enum MarksAnswer {
-    Marks(usize),
-    NoMarks(Refusal),
-}
 
 // The first mark of a text: where it begins and ends, and how many characters begin before these places; or none.
 #[derive(Clone, Copy)]
@@ -119,32 +111,32 @@ fn fill_places(text: &[u8], places: &mut [u8])
 
 // The number of marks that a transcript has, or the refusal, where places of so many bytes are lent:
 // refused by 2, 9 or 2.
-fn marks_in_size(text: &[u8], size: usize) -> MarksAnswer
+fn marks_in_size(text: &[u8], size: usize) -> Result<usize, Refusal>
     ensures { CountsInSize text.now size result }
 {
     if text.len() > 65536 {
-        return MarksAnswer::NoMarks(Refusal::Length);
+        return Err(Refusal::Length);
     }
     if !is_utf8(text) {
-        return MarksAnswer::NoMarks(Refusal::Encoding);
+        return Err(Refusal::Encoding);
     }
     let count = count_marks(text);
     if count > size / 20 {
-        return MarksAnswer::NoMarks(Refusal::Length);
+        return Err(Refusal::Length);
     }
-    MarksAnswer::Marks(count)
+    Ok(count)
 }
 
 // Puts each mark of a transcript in a place of its own, and answers the number of marks: refused by 2, 9 or 2.
-pub fn find_marks(text: &[u8], places: &mut [u8]) -> MarksAnswer
-    ensures { FindsMarks Marks NoMarks text.now places.old places.new result }
+pub fn find_marks(text: &[u8], places: &mut [u8]) -> Result<usize, Refusal>
+    ensures { FindsMarks Ok Err text.now places.old places.new result }
 {
     match marks_in_size(text, places.len()) {
-        MarksAnswer::Marks(count) => {
+        Ok(count) => {
             fill_places(text, places);
-            MarksAnswer::Marks(count)
+            Ok(count)
         }
-        MarksAnswer::NoMarks(refusal) => MarksAnswer::NoMarks(refusal),
+        Err(refusal) => Err(refusal),
     }
 }
 
@@ -153,17 +145,17 @@ pub fn marks_refusal(text: &[u8], size: usize) -> u32
     ensures { TellsRefusal text.now size result }
 {
     match marks_in_size(text, size) {
-        MarksAnswer::Marks(_) => 0,
-        MarksAnswer::NoMarks(refusal) => refusal_number(refusal),
+        Ok(_) => 0,
+        Err(refusal) => u32::from(refusal),
     }
 }
 
 // The number of marks, or 0 where they are refused.
-pub fn marks_or_zero(answer: MarksAnswer) -> usize
+pub fn marks_or_zero(answer: Result<usize, Refusal>) -> usize
     ensures { result ≡ marks_or_zero answer }
 {
     match answer {
-        MarksAnswer::Marks(count) => count,
-        MarksAnswer::NoMarks(_) => 0,
+        Ok(count) => count,
+        Err(_) => 0,
     }
 }

@@ -6,7 +6,6 @@ ghost use Rattle.std.specs.Prelude.{◌≡◌, length};
 ghost use Rattle.answers.specs.Page.{page_answer, FillsPage, lines_or_zero, page_refusal};
 ghost use Rattle.calendar.specs.Date.{day_of_date};
 ghost use Rattle.calendar.specs.Distance.{distance_of_days, distance_refusal, distance_or_zero};
-ghost use Rattle.calendar.specs.Span.{day_or_refusal};
 ghost use Rattle.calendar.specs.Weekday.{weekday_of_day, weekday_refusal, weekday_or_zero};
 ghost use Rattle.church.specs.Feast.{feast_of_year};
 ghost use Rattle.dating.specs.Line.{IsNumberOfLine};
@@ -16,12 +15,13 @@ ghost use Rattle.marks.specs.Transcript.{FindsMarks, TellsRefusal};
 use answers::page::{fill_page, lines_or_zero, page_refusal};
 use calendar::date::day_of_date;
 use calendar::distance::{distance_of_dates, distance_or_zero, distance_refusal};
-use calendar::span::day_or_refusal;
+use calendar::refusal::number_or_refusal;
 use calendar::weekday::{weekday_of_day, weekday_or_zero, weekday_refusal};
 use church::feast::feast_of_year;
 use dating::line::number_of_line;
 use dating::part::{part_of_line, place_of_part};
 use marks::transcript::{find_marks, marks_or_zero, marks_refusal};
+ghost use Rattle.calendar.specs.Refusal.{number_or_refusal};
 
 // The day of a dating line, or the refusal: 2, 3, 4, 5 or 6.
 #[unsafe(no_mangle)]
@@ -51,7 +51,7 @@ pub extern "C" fn qv_part_length(line: &[u8]) -> usize
 // Puts the day or refusal of each line of a page in a place of its own, and answers how many lines there are; 0 where the page is refused.
 #[unsafe(no_mangle)]
 pub extern "C" fn qv_page(page: &[u8], places: &mut [u8]) -> usize
-    ensures value { result ≡ lines_or_zero (page_answer page.now (length places.old)) }
+    ensures value { result ≡ result_unwrap_or (page_answer page.now (length places.old)) 0 }
     ensures fills_page { FillsPage page.now places.old places.new }
 {
     lines_or_zero(fill_page(page, places))
@@ -60,7 +60,7 @@ pub extern "C" fn qv_page(page: &[u8], places: &mut [u8]) -> usize
 // Why a page is refused where size bytes of places are lent: 2, or 0 where it is not.
 #[unsafe(no_mangle)]
 pub extern "C" fn qv_page_refusal(page: &[u8], size: usize) -> u32
-    ensures { result ≡ page_refusal (page_answer page.now size) }
+    ensures { result ≡ refusal_or_zero (page_answer page.now size) }
 {
     page_refusal(page, size)
 }
@@ -68,23 +68,23 @@ pub extern "C" fn qv_page_refusal(page: &[u8], size: usize) -> u32
 // The day of a feast, or the refusal: 1, 4 or 6.
 #[unsafe(no_mangle)]
 pub extern "C" fn qv_feast(style: u64, feast: u64, year: u64) -> u32
-    ensures { result ≡ day_or_refusal (feast_of_year style feast year) }
+    ensures { result ≡ number_or_refusal (feast_of_year style feast year) }
 {
-    day_or_refusal(feast_of_year(style, feast, year))
+    number_or_refusal(feast_of_year(style, feast, year))
 }
 
 // The day of a date, or the refusal: 1, 4, 5 or 6.
 #[unsafe(no_mangle)]
 pub extern "C" fn qv_day(style: u64, year: u64, month: u64, day: u64) -> u32
-    ensures { result ≡ day_or_refusal (day_of_date style year month day) }
+    ensures { result ≡ number_or_refusal (day_of_date style year month day) }
 {
-    day_or_refusal(day_of_date(style, year, month, day))
+    number_or_refusal(day_of_date(style, year, month, day))
 }
 
 // Why a day has no weekday: 1 or 6, or 0 where it has one.
 #[unsafe(no_mangle)]
 pub extern "C" fn qv_weekday_refusal(style: u64, day_number: u64) -> u32
-    ensures { result ≡ weekday_refusal (weekday_of_day style day_number) }
+    ensures { result ≡ refusal_or_zero (weekday_of_day style day_number) }
 {
     weekday_refusal(weekday_of_day(style, day_number))
 }
@@ -92,7 +92,7 @@ pub extern "C" fn qv_weekday_refusal(style: u64, day_number: u64) -> u32
 // The weekday of a day, 1 for Monday to 7 for Sunday, or 0 where it is refused.
 #[unsafe(no_mangle)]
 pub extern "C" fn qv_weekday(style: u64, day_number: u64) -> u32
-    ensures { result ≡ weekday_or_zero (weekday_of_day style day_number) }
+    ensures { result ≡ result_unwrap_or (weekday_of_day style day_number) 0 }
 {
     weekday_or_zero(weekday_of_day(style, day_number))
 }
@@ -109,7 +109,7 @@ pub extern "C" fn qv_distance_refusal(
     month2: u64,
     day2: u64,
 ) -> u32
-    ensures { result ≡ distance_refusal (distance_of_days (day_of_date style1 year1 month1 day1) (day_of_date style2 year2 month2 day2)) }
+    ensures { result ≡ refusal_or_zero (distance_of_days (day_of_date style1 year1 month1 day1) (day_of_date style2 year2 month2 day2)) }
 {
     distance_refusal(distance_of_dates(style1, year1, month1, day1, style2, year2, month2, day2))
 }
@@ -126,7 +126,7 @@ pub extern "C" fn qv_distance(
     month2: u64,
     day2: u64,
 ) -> i32
-    ensures { result ≡ distance_or_zero (distance_of_days (day_of_date style1 year1 month1 day1) (day_of_date style2 year2 month2 day2)) }
+    ensures { result ≡ result_unwrap_or (distance_of_days (day_of_date style1 year1 month1 day1) (day_of_date style2 year2 month2 day2)) (pos 0) }
 {
     distance_or_zero(distance_of_dates(style1, year1, month1, day1, style2, year2, month2, day2))
 }

@@ -3,8 +3,7 @@
 // held `#` before, so that it is seen which bytes are changed.
 #![tactic(auto)]
 
-use calendar::refusal::refusal_number;
-use dating::writer::{WriteAnswer, write_date};
+use dating::writer::write_date;
 
 const JULIAN: u64 = 1;
 
@@ -26,10 +25,10 @@ fn spaced(rt: &impl Print, n: u64) {
     let _ = rt.print(n);
 }
 
-fn bytes_or_refusal(answer: WriteAnswer) -> u64 {
+fn bytes_or_refusal(answer: Result<usize, Refusal>) -> u64 {
     match answer {
-        WriteAnswer::Bytes(count) => count as u64,
-        WriteAnswer::NoBytes(refusal) => refusal_number(refusal) as u64,
+        Ok(count) => count as u64,
+        Err(refusal) => u32::from(refusal) as u64,
     }
 }
 

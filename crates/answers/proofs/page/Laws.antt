@@ -26,7 +26,7 @@ use Rattle.answers.specs.Steps.{feeds, between, EndsAt}
 use Rattle.answers.specs.Page.{page_tests, page_answer, IsPlace, Filled, FillsPage}
 use Rattle.calendar.specs.declared.refusal.Refusal.TheVariants.{Length}
 use Rattle.calendar.specs.declared.refusal.Refusal.{Refusal}
-use Rattle.answers.specs.declared.page.PageAnswer.TheVariants.{Lines, NoPage}
+use Rattle.std.specs.Prelude.{Ok, Err}
 
 -- ---- how many lines there are
 -- a line that lacks its line feed is one more
@@ -212,27 +212,27 @@ module _ {s before : List ℕ} {place start : ℕ} {after : List ℕ} where
 
 -- ---- what the calls answer
 module _ (s : List ℕ) (size : ℕ) where
-  pub too_long : 65536 < length s → NoPage Length ≡ page_answer s size
+  pub too_long : 65536 < length s → Err Length ≡ page_answer s size
   too_long h = rw (lt-leb (length s) 65536 h)
 
   module _ (short : length s ≤ 65536) where
-    pub too_few : size / 4 < length (lines_of s) → NoPage Length ≡ page_answer s size
+    pub too_few : size / 4 < length (lines_of s) → Err Length ≡ page_answer s size
     too_few h = rw (le-leb (length s) 65536 short, lt-leb (length (lines_of s)) (size / 4) h)
 
-    pub all_fit : length (lines_of s) ≤ size / 4 → Lines (length (lines_of s)) ≡ page_answer s size
+    pub all_fit : length (lines_of s) ≤ size / 4 → Ok (length (lines_of s)) ≡ page_answer s size
     all_fit h = rw (le-leb (length s) 65536 short, le-leb (length (lines_of s)) (size / 4) h)
 
-no_page : {A : Type 0} (n : ℕ) (x : Refusal) → Lines n ≡ NoPage x → A
+no_page : {A : Type 0} (n : ℕ) (x : Refusal) → Ok n ≡ Err x → A
 no_page n x e = let z : ◌≡◌ {A = ℕ} 0 1 = cc in absurd (omega arith)
 
 -- the lines are answered where all tests are passed
-lines_passed : (ts : List Test) (m n : ℕ) → Lines n ≡ checked NoPage (Lines m) ts → AllPass ts
+lines_passed : (ts : List Test) (m n : ℕ) → Ok n ≡ checked Err (Ok m) ts → AllPass ts
 lines_passed [] m n e = tt
 lines_passed (x unless true ∷ ts) m n e = (refl, lines_passed ts m n e)
 lines_passed (x unless false ∷ ts) m n e = no_page n x e
 
 -- and refused by the first that is not
-first_refused : (ts : List Test) (m : ℕ) (x : Refusal) (before : List ℕ) (answer : Type 0) → NoPage x ≡ checked NoPage (Lines m) ts
+first_refused : (ts : List Test) (m : ℕ) (x : Refusal) (before : List ℕ) (answer : Type 0) → Err x ≡ checked Err (Ok m) ts
     → checked (λ y. before ≡ before) answer ts
 first_refused [] m x before answer e = no_page m x (sym e)
 first_refused (y unless true ∷ ts) m x before answer e = first_refused ts m x before answer e
@@ -242,14 +242,14 @@ module _ (s before : List ℕ) where
   abbrev size : ℕ
   size = length before
 
-  fits : (n : ℕ) → Lines n ≡ page_answer s size → AllPass (page_tests s size)
+  fits : (n : ℕ) → Ok n ≡ page_answer s size → AllPass (page_tests s size)
   fits n e = lines_passed (page_tests s size) (length (lines_of s)) n e
 
-  pub has_places : (n : ℕ) → Lines n ≡ page_answer s size → length (lines_of s) ≤ size / 4
+  pub has_places : (n : ℕ) → Ok n ≡ page_answer s size → length (lines_of s) ≤ size / 4
   has_places n e = leb-true (length (lines_of s)) (size / 4) (fits n e).1.0
 
-  pub page_filled : (n : ℕ) (after : List ℕ) → Lines n ≡ page_answer s size → Filled s before after → FillsPage s before after
+  pub page_filled : (n : ℕ) (after : List ℕ) → Ok n ≡ page_answer s size → Filled s before after → FillsPage s before after
   page_filled n after e done = rw ((fits n e).0, (fits n e).1.0) done
 
-  pub page_unfilled : (x : Refusal) → NoPage x ≡ page_answer s size → FillsPage s before before
+  pub page_unfilled : (x : Refusal) → Err x ≡ page_answer s size → FillsPage s before before
   page_unfilled x e = first_refused (page_tests s size) (length (lines_of s)) x before (Filled s before before) e

@@ -13,9 +13,11 @@ use Rattle.calendar.proofs.year.Laws.{year_up, one_year}
 use Rattle.calendar.specs.Date.{month_length, days_of_months, MonthOf, is_date, day_number, next_date}
 use Rattle.calendar.specs.Range.{between}
 use Rattle.calendar.specs.Year.{leap, new_year, YearOf}
-use Rattle.calendar.specs.declared.date.DateAnswer.TheVariants.{On, NoDate}
-use Rattle.calendar.specs.declared.date.DateAnswer.{DateAnswer}
 use Rattle.calendar.specs.declared.style.Calendar.{Calendar}
+use Rattle.std.specs.Prelude.{Result, Ok, Err}
+use Rattle.calendar.specs.declared.refusal.Refusal.{Refusal}
+use Rattle.calendar.specs.declared.date.CalendarDate.{CalendarDate}
+use Rattle.calendar.specs.Date.{date}
 
 -- is_date, as facts and back
 pub record DateBounds (b : Bool) (m d : ℕ) : Type 0 where
@@ -78,7 +80,7 @@ day_by_offset c y m d true h b e = rw (add-one y) (omega (arith, year_up c y h, 
 day_by_offset c y m d false h b e = rw (add-zero y) (omega (arith, month_offset (leap c y) false m b.month_high e))
 
 -- a day has one date only
-pub one_date : (c : Calendar) (n y m d y' m' d' : ℕ) → Dated c n y m d → Dated c n y' m' d' → On y m d ≡ On y' m' d'
+pub one_date : (c : Calendar) (n y m d y' m' d' : ℕ) → Dated c n y m d → Dated c n y' m' d' → date y m d ≡ date y' m' d'
 unfolding day_number
 one_date c n y m d y' m' d' h g =
     let same_year : y ≡ y' = one_year c n y y' (year_of c n y m d h) (year_of c n y' m' d' g) in
@@ -107,9 +109,9 @@ found c n y m h g =
     record { year = h.one; date = date; number = omega arith }
 
 -- n is the day of the date that an answer holds
-abbrev pub DatedOn : Calendar → ℕ → DateAnswer → Type 0
-DatedOn c n (On y m d) = Dated c n y m d
-DatedOn c n (NoDate x) = ⊥
+abbrev pub DatedOn : Calendar → ℕ → Result CalendarDate Refusal → Type 0
+DatedOn c n (Ok t) = Dated c n t.year t.month t.day
+DatedOn c n (Err x) = ⊥
 
 first_of : (b : Bool) (m : ℕ) → m < 12 → DateBounds b (m + 1) 1
 first_of b m h =
@@ -122,7 +124,7 @@ new_years_day c y h = record { year = h; date = first_of (leap c y) 0 (omega ari
 
 -- the cases of the next date: within a month, within a year, and over the year's end
 next_of : (c : Calendar) (n y m d : ℕ) (a b : Bool) → Dated c n y m d → ltb d (month_length (leap c y) m) ≡ a → ltb m 12 ≡ b
-    → DatedOn c (n + 1) (cond a (On y m (d + 1)) (cond b (On y (m + 1) 1) (On (y + 1) 1 1)))
+    → DatedOn c (n + 1) (cond a (Ok (date y m (d + 1))) (cond b (Ok (date y (m + 1) 1)) (Ok (date (y + 1) 1 1))))
 unfolding day_number
 next_of c n y m d true b h p q =
     let date : DateBounds (leap c y) m (d + 1) =
@@ -146,9 +148,9 @@ next_dated c n y m d h = next_of c n y m d _ _ h refl refl
 abbrev pub HasDate : Calendar → ℕ → Type 0
 HasDate c n = (y : ℕ) × (m : ℕ) × (d : ℕ) × Dated c n y m d
 
-holds_date : (c : Calendar) (n : ℕ) (a : DateAnswer) → DatedOn c n a → HasDate c n
-holds_date c n (On y m d) h = (y, m, d, h)
-holds_date c n (NoDate x) h = absurd h
+holds_date : (c : Calendar) (n : ℕ) (a : Result CalendarDate Refusal) → DatedOn c n a → HasDate c n
+holds_date c n (Ok t) h = (t.year, t.month, t.day, h)
+holds_date c n (Err x) h = absurd h
 
 counted_on : (c : Calendar) (k : ℕ) → HasDate c (new_year c 1 + k)
 counted_on c zero = (1, 1, 1, rw add-zero (new_years_day c 1 (omega arith)))

@@ -12,9 +12,8 @@ use mir.Val.{SFits}
 use borrow.Author.Tests.{ltb-true}
 use Rattle.calendar.specs.Distance.{distance, distance_of_days}
 use Rattle.calendar.specs.Span.{latest}
-use Rattle.calendar.specs.declared.distance.DistanceAnswer.TheVariants.{Days}
-use Rattle.calendar.specs.declared.span.DayAnswer.TheVariants.{Day, NoDay}
-use Rattle.calendar.specs.declared.span.DayAnswer.{DayAnswer}
+use Rattle.std.specs.Prelude.{Result, Ok, Err}
+use Rattle.calendar.specs.declared.refusal.Refusal.{Refusal}
 
 size : (a b k : ℕ) (t : Bool) → ltb b a ≡ t → a ≤ b + k → b ≤ a + k → nat_abs (cond t (negsuc (a - suc b)) (pos (b - a))) ≤ k
 size a b k true e h g = omega (arith, ltb-true)
@@ -30,21 +29,21 @@ mag_small (pos n) = le_refl n
 mag_small (negsuc n) = omega arith
 
 -- a distance has two days
-pub both_days : (p q : DayAnswer) (z : ℤ) → distance_of_days p q ≡ Days z
-    → (a : ℕ) × (b : ℕ) × (p ≡ Day a) × (q ≡ Day b) × (distance a b ≡ z)
-both_days (Day a) (Day b) z e = (a, b, refl, refl, cc)
-both_days (Day a) (NoDay x) z e = let o : ◌≡◌ {A = ℕ} 0 1 = cc in absurd (omega arith)
-both_days (NoDay x) q z e = let o : ◌≡◌ {A = ℕ} 0 1 = cc in absurd (omega arith)
+pub both_days : (p q : Result ℕ Refusal) (z : ℤ) → distance_of_days p q ≡ Ok z
+    → (a : ℕ) × (b : ℕ) × (p ≡ Ok a) × (q ≡ Ok b) × (distance a b ≡ z)
+both_days (Ok a) (Ok b) z e = (a, b, refl, refl, cc)
+both_days (Ok a) (Err x) z e = let o : ◌≡◌ {A = ℕ} 0 1 = cc in absurd (omega arith)
+both_days (Err x) q z e = let o : ◌≡◌ {A = ℕ} 0 1 = cc in absurd (omega arith)
 
-pub zero_same_day : (p q : DayAnswer) → distance_of_days p q ≡ Days (pos 0) → (n : ℕ) × (p ≡ Day n) × (q ≡ Day n)
+pub zero_same_day : (p q : Result ℕ Refusal) → distance_of_days p q ≡ Ok (pos 0) → (n : ℕ) × (p ≡ Ok n) × (q ≡ Ok n)
 zero_same_day p q e =
     let r = both_days p q (pos 0) e in
     let same : pos r.1 ≡ pos r.0 = rw (← -ℤ-+ℤ_cancel (pos r.1) (pos r.0), r.4) (+ℤ_idl (pos r.0)) in
     let same_day : r.1 ≡ r.0 = cc in
-    (r.0, r.2, r.3 ∙ ap Day same_day)
+    (r.0, r.2, r.3 ∙ ap Ok same_day)
 
-pub same_day_zero : (n : ℕ) → distance_of_days (Day n) (Day n) ≡ Days (pos 0)
-same_day_zero n = ap Days (+ℤ_invr (pos n))
+pub same_day_zero : (n : ℕ) → distance_of_days (Ok n) (Ok n) ≡ Ok (pos 0)
+same_day_zero n = ap Ok (+ℤ_invr (pos n))
 
 -- a distance of days fits 32 bits
 pub distance_fits : (a b : ℕ) → a ≤ latest → b ≤ latest → SFits w32 (distance a b)

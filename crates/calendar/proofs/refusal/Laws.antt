@@ -10,7 +10,7 @@ use lib.Dec.{T, leb, ltb, leb→le, ltb→lt}
 use Rattle.calendar.proofs.Each.{T-both}
 use Rattle.calendar.specs.Refusal.{numbered, refusal_number, Test, ◌unless◌, checked, Holds, Lowest}
 use Rattle.calendar.specs.declared.refusal.Refusal.{Refusal}
-use Rattle.calendar.specs.declared.span.DayAnswer.TheVariants.{Day, NoDay}
+use Rattle.std.specs.Prelude.{Ok, Err}
 
 pub refusal_digit : (x : Refusal) → refusal_number x ≤ 9
 refusal_digit x = leb→le (refusal_number x) 9 (numbered x).1
@@ -104,19 +104,19 @@ both_checked (x unless true ∷ ts) if_refused if_answered h g = both_checked ts
 both_checked (x unless false ∷ ts) if_refused if_answered h g = if_refused x h g
 
 -- ---- days and refusals
-pub no_day : {A : Type 0} (x : Refusal) (n : ℕ) → NoDay x ≡ Day n → A
+pub no_day : {A : Type 0} (x : Refusal) (n : ℕ) → Err x ≡ Ok n → A
 no_day x n e = let z : ◌≡◌ {A = ℕ} 0 1 = cc in absurd (omega arith)
 
 -- a day is answered where all tests are passed
-pub passed : (ts : List Test) (m n : ℕ) → checked NoDay (Day m) ts ≡ Day n → AllPass ts × (m ≡ n)
+pub passed : (ts : List Test) (m n : ℕ) → checked Err (Ok m) ts ≡ Ok n → AllPass ts × (m ≡ n)
 passed [] m n e = (tt, cc)
 passed (x unless true ∷ ts) m n e = let p = passed ts m n e in ((refl, p.0), p.1)
 passed (x unless false ∷ ts) m n e = no_day x n e
 
-pub passed_day : (t : Bool) (x : Refusal) (m n : ℕ) → checked NoDay (Day m) (x unless t ∷ []) ≡ Day n → (t ≡ true) × (m ≡ n)
+pub passed_day : (t : Bool) (x : Refusal) (m n : ℕ) → checked Err (Ok m) (x unless t ∷ []) ≡ Ok n → (t ≡ true) × (m ≡ n)
 passed_day t x m n e = let p = passed (x unless t ∷ []) m n e in (p.0.0, p.1)
 
 -- and refused by a test that is not passed
-pub refused_by : (t : Bool) (x y : Refusal) (m : ℕ) → checked NoDay (Day m) (x unless t ∷ []) ≡ NoDay y → (t ≡ false) × (y ≡ x)
+pub refused_by : (t : Bool) (x y : Refusal) (m : ℕ) → checked Err (Ok m) (x unless t ∷ []) ≡ Err y → (t ≡ false) × (y ≡ x)
 refused_by true x y m e = no_day y m (sym e)
 refused_by false x y m e = (refl, cc)

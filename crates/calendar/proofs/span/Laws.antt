@@ -8,9 +8,9 @@ use Rattle.calendar.proofs.refusal.Laws.{passed}
 use Rattle.calendar.proofs.year.Laws.{new_year_closed, new_year_rises, year_not_after}
 use Rattle.calendar.specs.Span.{first_day, last_day, earliest, latest, in_span, span_tests, within}
 use Rattle.calendar.specs.Year.{new_year, YearOf, first_year, served}
-use Rattle.calendar.specs.declared.span.DayAnswer.TheVariants.{Day}
 use Rattle.calendar.specs.declared.style.Calendar.TheVariants.{Julian, Gregorian}
 use Rattle.calendar.specs.declared.style.Calendar.{Calendar}
+use Rattle.std.specs.Prelude.{Ok}
 
 -- in_span and served, as facts
 pub span_range : (c : Calendar) (n : ℕ) → in_span c n ≡ true → (first_day c ≤ n) × (n ≤ last_day c)
@@ -22,7 +22,7 @@ unfolding served
 served_range c y e = range (first_year c) y 9999 e
 
 -- an answered day lies in the span, and is the day that was asked of
-pub answered_span : (c : Calendar) (m n : ℕ) → within c m ≡ Day n → (in_span c m ≡ true) × (m ≡ n)
+pub answered_span : (c : Calendar) (m n : ℕ) → within c m ≡ Ok n → (in_span c m ≡ true) × (m ≡ n)
 unfolding within
 answered_span c m n e = let p = passed (span_tests c m) m n e in (p.0.0, p.1)
 

@@ -14,11 +14,10 @@ use Rattle.calendar.specs.declared.style.Calendar.TheVariants.{Julian, Gregorian
 use Rattle.calendar.specs.declared.style.Calendar.{Calendar}
 use Rattle.calendar.specs.declared.style.Style.TheVariants.{J, G, O}
 use Rattle.calendar.specs.declared.style.Style.{Style}
-use Rattle.calendar.specs.declared.style.StyleAnswer.TheVariants.{Known, NoStyle}
-use Rattle.calendar.specs.declared.style.StyleAnswer.{StyleAnswer}
+use Rattle.std.specs.Prelude.{Result, Ok, Err}
 
 -- a call by the number of a style is the call in that style
-pub by_number_lem : (s : Style) → style_of (style_number s) ≡ Known s
+pub by_number_lem : (s : Style) → style_of (style_number s) ≡ Ok s
 unfolding style_of
 by_number_lem J = refl
 by_number_lem G = refl
@@ -34,22 +33,22 @@ whole_easter Julian = refl
 whole_easter Gregorian = refl
 
 -- what holds in each style, and where there is none, holds whatever the number
-pub by_cases {ℓ} : (P : StyleAnswer → Type ℓ) → ((s : Style) → P (Known s)) → P (NoStyle Name) → (k : ℕ) → P (style_of k)
+pub by_cases {ℓ} : (P : Result Style Refusal → Type ℓ) → ((s : Style) → P (Ok s)) → P (Err Name) → (k : ℕ) → P (style_of k)
 unfolding style_of
 by_cases P known none k = go (eqb k 1) (eqb k 2) (eqb k 3)
   where
-    go : (a b c : Bool) → P (cond a (Known J) (cond b (Known G) (cond c (Known O) (NoStyle Name))))
+    go : (a b c : Bool) → P (cond a (Ok J) (cond b (Ok G) (cond c (Ok O) (Err Name))))
     go true b c = known J
     go false true c = known G
     go false false true = known O
     go false false false = none
 
 -- two results of one call, by what follows of them in each style and where they are refused
-pub both_in : {C : Type 0} {refused refused' : Refusal → Type 0} {call call' : Style → Type 0} (t : StyleAnswer)
+pub both_in : {C : Type 0} {refused refused' : Refusal → Type 0} {call call' : Style → Type 0} (t : Result Style Refusal)
     → ((s : Style) → call s → call' s → C) → ((x : Refusal) → refused x → refused' x → C)
     → in_style refused call t → in_style refused' call' t → C
-both_in (Known s) known none h h' = known s h h'
-both_in (NoStyle x) known none h h' = none x h h'
+both_in (Ok s) known none h h' = known s h h'
+both_in (Err x) known none h h' = none x h h'
 
 -- the lowest number that holds is given, by a style's number too
 module _ {A : Type 0} (number : A → ℕ) (refused : Refusal → A) (told : (x : Refusal) → number (refused x) ≡ refusal_number x) (n : ℕ) where

@@ -25,13 +25,13 @@ use Rattle.church.specs.Easter.{limit, march, easter, key, reform_year, has_east
 use Rattle.church.specs.Feast.{+◌, days_from}
 use Rattle.church.specs.Period.{equinox_weekday, key_by}
 use Rattle.calendar.specs.declared.refusal.Refusal.{Refusal}
-use Rattle.calendar.specs.declared.span.DayAnswer.TheVariants.{Day, NoDay}
 use Rattle.calendar.specs.declared.style.Calendar.TheVariants.{Julian, Gregorian}
 use Rattle.calendar.specs.declared.style.Calendar.{Calendar}
 use Rattle.calendar.specs.declared.style.Style.TheVariants.{J, G, O}
 use Rattle.calendar.specs.declared.style.Style.{Style}
 use Rattle.calendar.specs.declared.weekday.Side.TheVariants.{After}
 use Rattle.calendar.specs.declared.weekday.Start.TheVariants.{Uncounted}
+use Rattle.std.specs.Prelude.{Ok, Err}
 
 -- which years have an Easter
 has_easter_lem : (c : Calendar) (y : ℕ) → served c y ≡ true → reform_year c y ≡ false → has_easter c y ≡ true
@@ -129,13 +129,13 @@ not_reform Gregorian y i =
     let r = span_range Gregorian (march Gregorian y 21) i in
     ne_eqb y 1582 (λ e. omega (arith, span_start Gregorian, ap (new_year Gregorian) e))
 
-pub equinox_day : (c : Calendar) (y n : ℕ) → day_in_calendar c y 3 21 ≡ Day n → (has_easter c y ≡ true) × (march c y 21 ≡ n)
+pub equinox_day : (c : Calendar) (y n : ℕ) → day_in_calendar c y 3 21 ≡ Ok n → (has_easter c y ≡ true) × (march c y 21 ≡ n)
 unfolding day_in_calendar march
 equinox_day c y n e =
     let p = passed (date_tests c y 3 21) (march c y 21) n e in
     (has_easter_lem c y p.0.0 (not_reform c y p.0.1.1.0), p.1)
 
-pub no_equinox : (c : Calendar) (y : ℕ) (x : Refusal) → day_in_calendar c y 3 21 ≡ NoDay x → has_easter c y ≡ false
+pub no_equinox : (c : Calendar) (y : ℕ) (x : Refusal) → day_in_calendar c y 3 21 ≡ Err x → has_easter c y ≡ false
 unfolding day_in_calendar is_date between march
 no_equinox c y x e = go _ refl
   where

@@ -25,13 +25,13 @@ use Rattle.church.specs.Easter.{easter, has_easter}
 use Rattle.church.specs.Feast.{Rule, hung, on, on_or_in_leap_years, advent, rule, advent_sunday, days_from, served_for, date_exists}
 use Rattle.church.specs.Feast.{rule_number, rule_day, feast_in_year}
 use Rattle.calendar.specs.declared.refusal.Refusal.TheVariants.{Year, Date}
-use Rattle.calendar.specs.declared.span.DayAnswer.TheVariants.{Day, NoDay}
-use Rattle.calendar.specs.declared.span.DayAnswer.{DayAnswer}
 use Rattle.calendar.specs.declared.style.Calendar.TheVariants.{Julian, Gregorian}
 use Rattle.calendar.specs.declared.style.Calendar.{Calendar}
 use Rattle.calendar.specs.declared.style.Style.{Style}
 use Rattle.calendar.specs.declared.weekday.Start.TheVariants.{Counted}
 use Rattle.calendar.specs.declared.year.NamedYear.{NamedYear}
+use Rattle.std.specs.Prelude.{Result, Ok, Err}
+use Rattle.calendar.specs.declared.refusal.Refusal.{Refusal}
 
 -- the days from Easter with 63 added, the days, the months, and how many days later in leap years, as the code's tables have them
 abbrev pub from_easter : List ℕ
@@ -56,16 +56,16 @@ unfolding hung_as
 hung_tested i h = below (λ i. hung_as (rule (i + 1)) (get_or from_easter i 0)) 23 tt i h
 
 -- the day n, where the year has an Easter and the span has the day
-abbrev pub hung_day : NamedYear → ℕ → DayAnswer
-hung_day t n = checked NoDay (Day n) (Year unless has_easter (dates_by t.style) t.year ∷ span_tests (dates_by t.style) n)
+abbrev pub hung_day : NamedYear → ℕ → Result ℕ Refusal
+hung_day t n = checked Err (Ok n) (Year unless has_easter (dates_by t.style) t.year ∷ span_tests (dates_by t.style) n)
 
 pub from_63 : (z : ℤ) (n : ℕ) → T (near z) → days_from z n ≡ n + days_from z 63 - 63
 from_63 (pos k) n h = omega arith
 from_63 (negsuc k) n h = omega (arith, leb→le k 62 h)
 
 -- a feast that hangs on Easter has a date in every year, so that this test changes nothing
-date_passed : (answer : DayAnswer) (year : Bool) (ts : List Test)
-    → checked NoDay answer (Year unless year ∷ Date unless true ∷ ts) ≡ checked NoDay answer (Year unless year ∷ ts)
+date_passed : (answer : Result ℕ Refusal) (year : Bool) (ts : List Test)
+    → checked Err answer (Year unless year ∷ Date unless true ∷ ts) ≡ checked Err answer (Year unless year ∷ ts)
 date_passed answer true ts = refl
 date_passed answer false ts = refl
 
@@ -169,7 +169,7 @@ november_in_span c y r =
     in_span_from c (first_year c) y 330 (day_number c y 11 27) e.0 e.1 (first_november c) (november_27 c y) in_year.to
 
 pub november_answer : (c : Calendar) (y : ℕ)
-    → day_in_calendar c y 11 27 ≡ checked NoDay (Day (day_number c y 11 27)) (Year unless served c y ∷ [])
+    → day_in_calendar c y 11 27 ≡ checked Err (Ok (day_number c y 11 27)) (Year unless served c y ∷ [])
 unfolding is_date between
 november_answer c y = answered c y 11 27 refl (november_in_span c y)
 
@@ -299,7 +299,7 @@ pub feast_in_year_lem : (s : Style) (y f : ℕ) → 1 ≤ y → KeyFits s y → 
 feast_in_year_lem s y f one fits e = rule_in_year (rule f) s y one fits (rule_good (leap (dates_by s) y) f e)
 
 pub feast_answered : (s : Style) (y f : ℕ) → has_easter (dates_by s) y ≡ true → between 1 f 48 ≡ true
-    → feast_in_year (named s y) f ≡ Day (rule_number (rule f) s y)
+    → feast_in_year (named s y) f ≡ Ok (rule_number (rule f) s y)
 unfolding feast_in_year
 feast_answered s y f h e =
     let c = dates_by s in
@@ -315,7 +315,7 @@ pub same_easter : (s s' : Style) (y f : ℕ) → easter_by s ≡ easter_by s' �
     → between 1 f 23 ≡ true → feast_in_year (named s y) f ≡ feast_in_year (named s' y) f
 same_easter s s' y f e h h' i =
     let listed = in_whole_table f 1 23 (omega arith) (omega arith) i in
-    feast_answered s y f h listed ∙ ap Day (same_hung (rule f) s s' y (first_hang f i) e) ∙ sym (feast_answered s' y f h' listed)
+    feast_answered s y f h listed ∙ ap Ok (same_hung (rule f) s s' y (first_hang f i) e) ∙ sym (feast_answered s' y f h' listed)
 
 -- Styles whose dates go by one calendar keep every other feast on the same day, or refuse it alike.
 pub same_others : (s s' : Style) (y f : ℕ) → dates_by s ≡ dates_by s' → between 24 f 48 ≡ true → feast_in_year (named s y) f ≡ feast_in_year (named s' y) f

@@ -14,9 +14,9 @@ use Rattle.calendar.specs.Style.{dates_by}
 use Rattle.calendar.specs.declared.refusal.Refusal.TheVariants.{Year}
 use Rattle.calendar.specs.declared.style.Style.{Style}
 use Rattle.calendar.specs.declared.year.NamedYear.{NamedYear}
-use Rattle.church.specs.declared.sheet.SheetAnswer.TheVariants.{Sheet, NoSheet}
-use Rattle.church.specs.declared.sheet.SheetAnswer.{SheetAnswer}
 use Rattle.church.specs.declared.sheet.YearSheet.{YearSheet}
+use Rattle.std.specs.Prelude.{Result, Ok, Err}
+use Rattle.calendar.specs.declared.refusal.Refusal.{Refusal}
 
 one_sheet : (s : Style) (y : ℕ) (r r' : YearSheet) → IsSheet s y r → IsSheet s y r' → r ≡ r'
 one_sheet s y r r' h h' =
@@ -35,20 +35,20 @@ one_sheet s y r r' h h' =
       easter = (h.its_easter ∙ sym h'.its_easter) i;
     }
 
-one_of : (t : NamedYear) (a b : SheetAnswer) → IsSheetOf t a → IsSheetOf t b → a ≡ b
-one_of t (Sheet r) (Sheet r') h h' = ap Sheet (one_sheet t.style t.year r r' h h')
-one_of t (Sheet r) (NoSheet x) h h' = absurd h'
-one_of t (NoSheet x) b h h' = absurd h
+one_of : (t : NamedYear) (a b : Result YearSheet Refusal) → IsSheetOf t a → IsSheetOf t b → a ≡ b
+one_of t (Ok r) (Ok r') h h' = ap Ok (one_sheet t.style t.year r r' h h')
+one_of t (Ok r) (Err x) h h' = absurd h'
+one_of t (Err x) b h h' = absurd h
 
 -- Any two answers that the year sheet may give are equal, in a style.
-pub one_answer_in_year : (t : NamedYear) (r r' : SheetAnswer) → IsSheetInYear t r → IsSheetInYear t r' → r ≡ r'
+pub one_answer_in_year : (t : NamedYear) (r r' : Result YearSheet Refusal) → IsSheetInYear t r → IsSheetInYear t r' → r ≡ r'
 one_answer_in_year t r r' h h' =
-    both_checked (easter_tests (dates_by t.style) t.year) (λ x (p : r ≡ NoSheet x) (q : r' ≡ NoSheet x). p ∙ sym q) (one_of t r r') h h'
+    both_checked (easter_tests (dates_by t.style) t.year) (λ x (p : r ≡ Err x) (q : r' ≡ Err x). p ∙ sym q) (one_of t r r') h h'
 
 -- A sheet that is answered is its year's.
-pub answered_sheet : (t : NamedYear) (r : YearSheet) → IsSheetInYear t (Sheet r) → IsSheet t.style t.year r
+pub answered_sheet : (t : NamedYear) (r : YearSheet) → IsSheetInYear t (Ok r) → IsSheet t.style t.year r
 answered_sheet t r h = go (has_easter (dates_by t.style) t.year) h
   where
-    go : (has : Bool) → checked (λ x. Sheet r ≡ NoSheet x) (IsSheet t.style t.year r) (Year unless has ∷ []) → IsSheet t.style t.year r
+    go : (has : Bool) → checked (λ x. Ok r ≡ Err x) (IsSheet t.style t.year r) (Year unless has ∷ []) → IsSheet t.style t.year r
     go true h = h
     go false h = let z : ◌≡◌ {A = ℕ} 0 1 = cc in absurd (omega arith)

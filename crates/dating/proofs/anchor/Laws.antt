@@ -23,9 +23,9 @@ use Rattle.words.specs.Word.{feast_word, feast_words}
 use Rattle.dating.specs.Anchor.{Anchor, feast, date, spell_anchor, GoodAnchor}
 use Rattle.dating.specs.Steps.{anchors, anchor_day}
 use Rattle.calendar.specs.declared.refusal.Refusal.TheVariants.{Form}
-use Rattle.calendar.specs.declared.span.DayAnswer.TheVariants.{NoDay}
-use Rattle.calendar.specs.declared.span.DayAnswer.{DayAnswer}
 use Rattle.calendar.specs.declared.year.NamedYear.{NamedYear}
+use Rattle.std.specs.Prelude.{Result, Err}
+use Rattle.calendar.specs.declared.refusal.Refusal.{Refusal}
 
 -- ---- what stands in neither
 pub lacks_space : (a : Anchor) → GoodAnchor a → has space (spell_anchor a) ≡ false
@@ -69,14 +69,14 @@ pub record MayDate (s : List ℕ) (e : ℕ) : Type 0 where
   pub place : ((get_or s 1 0 ≡ point) × (e ≡ 1)) ⊎ ((get_or s 1 0 ≡ point → ⊥) × (e ≡ 2))
 
 module _ (t : NamedYear) (s : List ℕ) where
-  abbrev pub Tells : DayAnswer → Type 0
-  Tells r = Told anchors (anchor_day t) (NoDay Form) s r
+  abbrev pub Tells : Result ℕ Refusal → Type 0
+  Tells r = Told anchors (anchor_day t) (Err Form) s r
 
   -- a date is spelled s
   abbrev Dates : ℕ → ℕ → Type 0
   Dates d m = ((1 ≤ d) × (d ≤ 31)) × ((1 ≤ m) × (m ≤ 12)) × (numeral d ++ point ∷ numeral m ≡ s)
 
-  no_anchor : ((f : ℕ) → 1 ≤ f → f ≤ 48 → feast_word f ≡ s → ⊥) → ((d m : ℕ) → Dates d m → ⊥) → Tells (NoDay Form)
+  no_anchor : ((f : ℕ) → 1 ≤ f → f ≤ 48 → feast_word f ≡ s → ⊥) → ((d m : ℕ) → Dates d m → ⊥) → Tells (Err Form)
   unfolding spell_anchor GoodAnchor
   no_anchor no_feast no_date = unproduced (λ a g e. neither a g e) refl
     where
@@ -84,7 +84,7 @@ module _ (t : NamedYear) (s : List ℕ) where
       neither (feast f) g e = no_feast f g.0 g.1 e
       neither (date d m) g e = no_date d m (g.0, g.1, e)
 
-  pub too_short : length s < 3 → Tells (NoDay Form)
+  pub too_short : length s < 3 → Tells (Err Form)
   too_short h = unproduced (λ a g e. omega (arith, rw e at (three_bytes a g))) refl
 
   day_byte : (d m i : ℕ) → Dates d m → i < length (numeral d) → (48 ≤ get_or s i 0) × (get_or s i 0 ≤ 57)
@@ -93,7 +93,7 @@ module _ (t : NamedYear) (s : List ℕ) where
 
   -- a first byte above the digits is a feast word's
   module _ (f : ℕ) (told : Told feast_words (λ n. n) 0 s f) where
-    pub no_feast : 57 < get_or s 0 0 → f ≡ 0 → Tells (NoDay Form)
+    pub no_feast : 57 < get_or s 0 0 → f ≡ 0 → Tells (Err Form)
     no_feast high z = no_anchor (number_untold f told z) (λ d m k. omega (arith, day_byte d m 0 k (numeral_length d).0))
 
     pub feast_told : 0 < f → Tells (feast_in_year t f)
@@ -122,16 +122,16 @@ module _ (t : NamedYear) (s : List ℕ) where
         sym (drop_at (numeral d) (point ∷ numeral m) e size) ∙ rw (k.2, add-one) (drop-cons s e 0 (omega arith)) in
         (sym (take_at (numeral d) (point ∷ numeral m) e size) ∙ rw k.2, cc, cc)
 
-    undated : ((d m : ℕ) → Dates d m → ⊥) → Tells (NoDay Form)
+    undated : ((d m : ℕ) → Dates d m → ⊥) → Tells (Err Form)
     undated none = no_anchor (λ f least most q. omega (arith, rw q at (feast_first f least most))) none
 
-    pub no_point : (get_or s e 0 ≡ point → ⊥) → Tells (NoDay Form)
+    pub no_point : (get_or s e 0 ≡ point → ⊥) → Tells (Err Form)
     no_point n = undated (λ d m k. n (date_cut d m k).1)
 
-    pub no_day : (d : ℕ) → Told (numerals 31) (λ n. n) 0 (take e s) d → d ≡ 0 → Tells (NoDay Form)
+    pub no_day : (d : ℕ) → Told (numerals 31) (λ n. n) 0 (take e s) d → d ≡ 0 → Tells (Err Form)
     no_day d told z = undated (λ n m k. number_untold d told z n k.0.0 k.0.1 (date_cut n m k).0)
 
-    pub no_month : (m : ℕ) → Told (numerals 12) (λ n. n) 0 (drop (e + 1) s) m → m ≡ 0 → Tells (NoDay Form)
+    pub no_month : (m : ℕ) → Told (numerals 12) (λ n. n) 0 (drop (e + 1) s) m → m ≡ 0 → Tells (Err Form)
     no_month m told z = undated (λ d n k. number_untold m told z n k.1.0 k.1.1 (date_cut d n k).2)
 
     pub date_told : (d m : ℕ) → get_or s e 0 ≡ point → Told (numerals 31) (λ n. n) 0 (take e s) d → 0 < d

@@ -23,9 +23,9 @@ use Rattle.dating.specs.Answer.{line_feed, day_fields, DatedText, refused_text, 
 use Rattle.dating.specs.Steps.{Put, PutsDate, PutsDated, ReadFrom}
 use Rattle.calendar.specs.declared.refusal.Refusal.TheVariants.{Length}
 use Rattle.calendar.specs.declared.refusal.Refusal.{Refusal}
-use Rattle.calendar.specs.declared.span.DayAnswer.TheVariants.{Day, NoDay}
 use Rattle.calendar.specs.declared.style.Calendar.{Calendar}
 use Rattle.calendar.specs.declared.style.Style.{Style}
+use Rattle.std.specs.Prelude.{Ok, Err}
 
 -- ---- texts
 digit_field : (n c : ℕ) → n ≤ 9 → length (field n c) ≡ 2
@@ -94,9 +94,9 @@ answer_length s t (dated y n told (l, (g, (e, is_style))) text) =
 
 -- a line that is too long is answered as any other that is
 pub overlong : (s u t : List ℕ) → 120 < length s → 120 < length u → IsAnswer s t → IsAnswer u t
-overlong s u t h k (dated y n told of_style text) = no_day Length n (one_answer (NoDay Length) (Day n) (too_many s h) told)
+overlong s u t h k (dated y n told of_style text) = no_day Length n (one_answer (Err Length) (Ok n) (too_many s h) told)
 overlong s u t h k (refused x told text) =
-    let same : NoDay x ≡ NoDay Length = one_answer (NoDay x) (NoDay Length) told (too_many s h) in
+    let same : Err x ≡ Err Length = one_answer (Err x) (Err Length) told (too_many s h) in
     let its : x ≡ Length = cc in
     refused Length (too_many u k) (text ∙ ap refused_text its)
 

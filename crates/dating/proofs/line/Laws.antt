@@ -29,13 +29,12 @@ use Rattle.dating.specs.Phrase.{Phrase, plain, wrapped, spell_phrase, GoodPhrase
 use Rattle.dating.specs.Steps.{phrases, is_style_letter, style_of_letter, Ended, endings, end_at, ReadFrom}
 use Rattle.calendar.specs.declared.refusal.Refusal.TheVariants.{Length, Form}
 use Rattle.calendar.specs.declared.refusal.Refusal.{Refusal}
-use Rattle.calendar.specs.declared.span.DayAnswer.TheVariants.{Day, NoDay}
-use Rattle.calendar.specs.declared.span.DayAnswer.{DayAnswer}
 use Rattle.calendar.specs.declared.style.Style.TheVariants.{J, G, O}
 use Rattle.calendar.specs.declared.style.Style.{Style}
 use Rattle.calendar.specs.declared.year.NamedYear.{NamedYear}
 use Rattle.dating.specs.declared.line.Ending.TheVariants.{At, NoEnding}
 use Rattle.dating.specs.declared.line.Ending.{Ending}
+use Rattle.std.specs.Prelude.{Result, Ok, Err}
 
 -- ---- style letters
 its_letter : (s : Style) → (is_style_letter (style_letter s) ≡ true) × (style_of_letter (style_letter s) ≡ s)
@@ -215,11 +214,11 @@ line_map f r (unfit h m) = unfit h (ap f m)
 line_map f r (fit h t) = fit h (told_map f r t)
 
 -- ---- what a line tells
-pub no_bytes : (s : List ℕ) → length s ≡ 0 → IsDayOfLine s (NoDay Length)
+pub no_bytes : (s : List ℕ) → length s ≡ 0 → IsDayOfLine s (Err Length)
 unfolding between
 no_bytes s h = unfit (rw h) refl
 
-pub too_many : (s : List ℕ) → 120 < length s → IsDayOfLine s (NoDay Length)
+pub too_many : (s : List ℕ) → 120 < length s → IsDayOfLine s (Err Length)
 unfolding between
 too_many s h = unfit (rw (le-leb 1 (length s) (omega arith), lt-leb (length s) 120 h)) refl
 
@@ -227,7 +226,7 @@ module _ (s : List ℕ) (some : length s ≡ 0 → ⊥) (few : length s ≤ 120)
   pub length_fits_lem : length_fits s ≡ true
   length_fits_lem = in_range 1 (length s) 120 (omega arith) few
 
-  pub no_ending : (r : Ending) → TellsEnding s r → r ≡ NoEnding → IsDayOfLine s (NoDay Form)
+  pub no_ending : (r : Ending) → TellsEnding s r → r ≡ NoEnding → IsDayOfLine s (Err Form)
   unfolding spell_line
   no_ending r (produced x g e m) z = let f : At (length x.front) x.named ≡ NoEnding = sym m ∙ z in no_false cc
   no_ending r (unproduced none m) z =
@@ -249,7 +248,7 @@ module _ (s : List ℕ) (k : ℕ) (t : NamedYear) (ends : TellsEnding s (At k t)
   pub size : length (take k s) ≡ k
   size = length-take-le k s its_end.0
 
-  pub line_told : length_fits s ≡ true → (r : DayAnswer) → Told phrases (phrase_day t) (NoDay Form) (take k s) r → IsDayOfLine s r
+  pub line_told : length_fits s ≡ true → (r : Result ℕ Refusal) → Told phrases (phrase_day t) (Err Form) (take k s) r → IsDayOfLine s r
   unfolding spell_line line_day
   line_told fits r (produced p g e m) =
       fit fits (produced (record { phrase = p; named = t }) (record { phrase = g; year = its_end.1.0 }) (rw e its_end.1.1) m)
@@ -259,7 +258,7 @@ module _ (s : List ℕ) (k : ℕ) (t : NamedYear) (ends : TellsEnding s (At k t)
       none l.phrase g.phrase same.0) m)
 
 -- ---- what a reading says
-pub day_read : (s : List ℕ) (y : Style) (n k : ℕ) → ReadFrom s y n k → IsDayOfLine s (Day n)
+pub day_read : (s : List ℕ) (y : Style) (n k : ℕ) → ReadFrom s y n k → IsDayOfLine s (Ok n)
 day_read s y n k r = fit r.fits (produced r.line r.good r.spelled (sym r.day))
 
 pub read_in_span : (s : List ℕ) (y : Style) (n k : ℕ) → ReadFrom s y n k → in_span (dates_by y) n ≡ true
@@ -268,12 +267,12 @@ read_in_span s y n k r = rw r.style at (phrase_in_span r.line.named r.line.phras
 
 -- ---- the reading of a line that has a day
 module _ (s : List ℕ) (n : ℕ) where
-  pub two_bytes : IsDayOfLine s (Day n) → 2 ≤ length s
+  pub two_bytes : IsDayOfLine s (Ok n) → 2 ≤ length s
   two_bytes (unfit h m) = no_day Length n (sym m)
   two_bytes (fit h (unproduced none m)) = no_day Form n (sym m)
   two_bytes (fit h (produced l g e m)) = omega (arith, rw e at (line_length l g))
 
-  pub reading : IsDayOfLine s (Day n) → (i : ℕ) → BehindLast space (take (length s - 2) s) i
+  pub reading : IsDayOfLine s (Ok n) → (i : ℕ) → BehindLast space (take (length s - 2) s) i
       → (0 < i) × ReadFrom s (style_of_letter (get_or s (length s - 1) 0)) n (i - 1)
   unfolding spell_line
   reading (unfit h m) i b = no_day Length n (sym m)

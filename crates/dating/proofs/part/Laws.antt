@@ -19,11 +19,10 @@ use Rattle.dating.specs.Part.{Part, bytes_before, anchor_part, empty_part, if_ac
 use Rattle.dating.specs.Phrase.{Phrase, plain, wrapped, spell_phrase, GoodPhrase, anchor_of}
 use Rattle.dating.specs.Steps.{ReadFrom}
 use Rattle.calendar.specs.declared.refusal.Refusal.{Refusal}
-use Rattle.calendar.specs.declared.span.DayAnswer.TheVariants.{Day, NoDay}
-use Rattle.calendar.specs.declared.span.DayAnswer.{DayAnswer}
 use Rattle.calendar.specs.declared.style.Style.{Style}
 use Rattle.words.specs.declared.wrapper.Wrapper.{Wrapper}
 use Rattle.dating.specs.declared.part.Place.{Place}
+use Rattle.std.specs.Prelude.{Result, Ok, Err}
 
 -- the words of all wrappers of a phrase
 leads : Phrase → List ℕ
@@ -77,7 +76,7 @@ phrase_long p = sym (ap length (its_leads p)) ∙ length-append (leads p) (spell
 
 -- ---- the place of the part
 module _ (s : List ℕ) where
-  pub refused_place : (x : Refusal) → IsDayOfLine s (NoDay x) → IsPlace s (place_of empty_part)
+  pub refused_place : (x : Refusal) → IsDayOfLine s (Err x) → IsPlace s (place_of empty_part)
   unfolding line_part
   refused_place x (unfit h m) = unfit h refl
   refused_place x (fit h (unproduced none m)) = fit h (unproduced none refl)
@@ -111,10 +110,10 @@ module _ (s : List ℕ) where
   abbrev pub Stands : Part → Type 0
   Stands p = (p.start + length p.text ≤ length s) × (take (length p.text) (drop p.start s) ≡ p.text)
 
-  accepted_stands : (a : DayAnswer) (l : Line) → spell_line l ≡ s → Stands (if_accepted a (anchor_part l.phrase))
+  accepted_stands : (a : Result ℕ Refusal) (l : Line) → spell_line l ≡ s → Stands (if_accepted a (anchor_part l.phrase))
   unfolding spell_line
-  accepted_stands (NoDay x) l e = (omega arith, refl)
-  accepted_stands (Day n) l e =
+  accepted_stands (Err x) l e = (omega arith, refl)
+  accepted_stands (Ok n) l e =
       let p = l.phrase in
       let a = spell_anchor (anchor_of p) in
       let whole : leads p ++ (a ++ ending l.named) ≡ s = sym (append_assoc (leads p) a (ending l.named)) ∙ rw (its_leads p) e in

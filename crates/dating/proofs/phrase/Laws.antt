@@ -23,13 +23,13 @@ use Rattle.dating.specs.Phrase.{Phrase, plain, wrapped, spell_phrase, GoodPhrase
 use Rattle.dating.specs.Phrase.{year_served, date_there, start_day, phrase_tests, phrase_day}
 use Rattle.dating.specs.Steps.{anchors, anchor_day, phrases}
 use Rattle.calendar.specs.declared.refusal.Refusal.TheVariants.{Form, Year, Date, Span}
-use Rattle.calendar.specs.declared.span.DayAnswer.TheVariants.{Day, NoDay}
-use Rattle.calendar.specs.declared.span.DayAnswer.{DayAnswer}
 use Rattle.calendar.specs.declared.style.Calendar.{Calendar}
 use Rattle.calendar.specs.declared.year.NamedYear.{NamedYear}
 use Rattle.words.specs.declared.wrapper.Lead.TheVariants.{Wrapped, Plain}
 use Rattle.words.specs.declared.wrapper.Lead.{Lead}
 use Rattle.words.specs.declared.wrapper.Wrapper.{Wrapper}
+use Rattle.std.specs.Prelude.{Result, Ok, Err}
+use Rattle.calendar.specs.declared.refusal.Refusal.{Refusal}
 
 -- A wrapper acts on the day of the phrase behind it.
 pub wrapper_acts : (t : NamedYear) (w : Wrapper) (p : Phrase) → phrase_day t (wrapped w p) ≡ acted (dates_by t.style) w (phrase_day t p)
@@ -37,8 +37,8 @@ unfolding phrase_day comes_to stays_in anchor_of within
 wrapper_acts t w p = go (year_served t p) (date_there t p) (stays_in (dates_by t.style) p (start_day t p)) (comes_to p (start_day t p))
   where
     go : (year date stays : Bool) (n : ℕ)
-        → checked NoDay (Day (moved w n)) (Year unless year ∷ Date unless date ∷ Span unless (stays && in_span (dates_by t.style) (moved w n)) ∷ [])
-        ≡ acted (dates_by t.style) w (checked NoDay (Day n) (Year unless year ∷ Date unless date ∷ Span unless stays ∷ []))
+        → checked Err (Ok (moved w n)) (Year unless year ∷ Date unless date ∷ Span unless (stays && in_span (dates_by t.style) (moved w n)) ∷ [])
+        ≡ acted (dates_by t.style) w (checked Err (Ok n) (Year unless year ∷ Date unless date ∷ Span unless stays ∷ []))
     go false date stays n = refl
     go true false stays n = refl
     go true true false n = refl
@@ -67,20 +67,20 @@ unfolding stays_in comes_to
 stays_last c (plain a) n h = h
 stays_last c (wrapped w p) n h = ((and-eq-true_iff (stays_in c p n) (in_span c (moved w (comes_to p n)))).0 h).1
 
-pub phrase_in_span : (t : NamedYear) (p : Phrase) (n : ℕ) → phrase_day t p ≡ Day n → in_span (dates_by t.style) n ≡ true
+pub phrase_in_span : (t : NamedYear) (p : Phrase) (n : ℕ) → phrase_day t p ≡ Ok n → in_span (dates_by t.style) n ≡ true
 unfolding phrase_day
 phrase_in_span t p n e =
     let k = passed (phrase_tests t p) (comes_to p (start_day t p)) n e in
     rw k.1 at (stays_last (dates_by t.style) p (start_day t p) k.0.1.1.0)
 
-pub told_in_span : (t : NamedYear) (s : List ℕ) (n : ℕ) → Told phrases (phrase_day t) (NoDay Form) s (Day n) → in_span (dates_by t.style) n ≡ true
+pub told_in_span : (t : NamedYear) (s : List ℕ) (n : ℕ) → Told phrases (phrase_day t) (Err Form) s (Ok n) → in_span (dates_by t.style) n ≡ true
 told_in_span t s n (produced p g e m) = phrase_in_span t p n (sym m)
 told_in_span t s n (unproduced none m) = no_day Form n (sym m)
 
 -- ---- what a phrase tells, by what it begins with
 module _ (s : List ℕ) (t : NamedYear) where
-  pub plain_told : (l : Lead) → Told leadings lead Plain s l → l ≡ Plain → (r : DayAnswer) → Told anchors (anchor_day t) (NoDay Form) s r
-      → Told phrases (phrase_day t) (NoDay Form) s r
+  pub plain_told : (l : Lead) → Told leadings lead Plain s l → l ≡ Plain → (r : Result ℕ Refusal) → Told anchors (anchor_day t) (Err Form) s r
+      → Told phrases (phrase_day t) (Err Form) s r
   unfolding spell_phrase GoodPhrase phrase_day comes_to stays_in anchor_of anchor_day
   plain_told l (produced x g e m) z r told = let f : Wrapped x.wrapper (length (wrapper_words x.wrapper)) ≡ Plain = sym m ∙ z in no_false cc
   plain_told l (unproduced none m) z r (produced a g e f) = produced (plain a) g e f
@@ -108,8 +108,8 @@ module _ (s : List ℕ) (w : Wrapper) (n : ℕ) (begins : Told leadings lead Pla
       let count = (leads s w n begins).0 in
       (omega arith, omega arith)
 
-  pub wrapped_told : (t : NamedYear) (r : DayAnswer) → Told phrases (phrase_day t) (NoDay Form) (drop n s) r
-      → Told phrases (phrase_day t) (NoDay Form) s (acted (dates_by t.style) w r)
+  pub wrapped_told : (t : NamedYear) (r : Result ℕ Refusal) → Told phrases (phrase_day t) (Err Form) (drop n s) r
+      → Told phrases (phrase_day t) (Err Form) s (acted (dates_by t.style) w r)
   unfolding spell_phrase GoodPhrase
   wrapped_told t r (produced p g e m) =
       produced (wrapped w p) ((leads s w n begins).1, g) (rw e (leads s w n begins).2) (ap (acted (dates_by t.style) w) m ∙ sym (wrapper_acts t w p))

@@ -25,15 +25,13 @@ use Rattle.dating.specs.Line.{Line, ending, spell_line, GoodLine, line_day, fit,
 use Rattle.dating.specs.Phrase.{plain, spell_phrase, GoodPhrase, anchor_of, comes_to, stays_in, phrase_day}
 use Rattle.dating.specs.Steps.{Put, PutsDate}
 use Rattle.dating.specs.Writer.{date_text, IsDateText, write_tests, Refuses, Puts, WritesInStyle}
-use Rattle.calendar.specs.declared.date.DateAnswer.{DateAnswer}
-use Rattle.calendar.specs.declared.date.DateAnswer.TheVariants.{On, NoDate}
 use Rattle.calendar.specs.declared.refusal.Refusal.{Refusal}
 use Rattle.calendar.specs.declared.refusal.Refusal.TheVariants.{Length, Span}
-use Rattle.calendar.specs.declared.span.DayAnswer.TheVariants.{Day, NoDay}
 use Rattle.calendar.specs.declared.style.Style.{Style}
 use Rattle.calendar.specs.declared.year.NamedYear.{NamedYear}
-use Rattle.dating.specs.declared.writer.WriteAnswer.{WriteAnswer}
-use Rattle.dating.specs.declared.writer.WriteAnswer.TheVariants.{Bytes, NoBytes}
+use Rattle.std.specs.Prelude.{Result, Ok, Err}
+use Rattle.calendar.specs.declared.date.CalendarDate.{CalendarDate}
+use Rattle.calendar.specs.Date.{date}
 
 -- ---- bytes put at a place
 -- the last byte may be put first
@@ -112,7 +110,7 @@ pub field_length : (n c : ℕ) → length (field n c) ≡ length (numeral n) + 1
 field_length n c = length-append (numeral n) (c ∷ [])
 
 -- a date of the calendar has at most 12 bytes
-pub twelve_bytes : (s : Style) (n y m d : ℕ) → day_in_year (named s y) m d ≡ Day n → length (date_text (named s y) m d) ≤ 12
+pub twelve_bytes : (s : Style) (n y m d : ℕ) → day_in_year (named s y) m d ≡ Ok n → length (date_text (named s y) m d) ≤ 12
 twelve_bytes s n y m d e =
     let small = date_small (dates_by s) n y m d e in
     let all = date_length (named s y) m d in
@@ -128,28 +126,28 @@ pub text_length : (s : Style) (n : ℕ) (w : List ℕ) → IsDateText s n w → 
 text_length s n w t = rw t.text (twelve_bytes s n t.year t.month t.day t.is_date)
 
 -- ---- the date of a day, put or refused
-pub day_put : (s : Style) (n y m d : ℕ) {i r : ℕ} {before after : List ℕ} → day_in_year (named s y) m d ≡ Day n
+pub day_put : (s : Style) (n y m d : ℕ) {i r : ℕ} {before after : List ℕ} → day_in_year (named s y) m d ≡ Ok n
     → Put before i (date_text (named s y) m d) after r → PutsDate s n i before after r
 day_put s n y m d e p = (date_text (named s y) m d, (record { year = y; month = m; day = d; is_date = e; text = refl }, p))
 
 module _ (s : Style) (n : ℕ) (before : List ℕ) where
-  pub too_short : length before < 12 → WritesInStyle before before (NoBytes Length) s n
+  pub too_short : length before < 12 → WritesInStyle before before (Err Length) s n
   too_short h = rw (lt-leb 12 (length before) h) (refl, refl)
 
   module _ (room : 12 ≤ length before) where
-    pub outside : (x : Refusal) → within (dates_by s) n ≡ NoDay x → WritesInStyle before before (NoBytes x) s n
+    pub outside : (x : Refusal) → within (dates_by s) n ≡ Err x → WritesInStyle before before (Err x) s n
     unfolding within
     outside x e =
         let out = refused_by (in_span (dates_by s) n) Span x n e in
-        rw (le-leb 12 (length before) room, out.0) (ap NoBytes out.1, refl)
+        rw (le-leb 12 (length before) room, out.0) (ap Err out.1, refl)
 
-    pub written : (after : List ℕ) (r : ℕ) → in_span (dates_by s) n ≡ true → PutsDate s n 0 before after r → WritesInStyle before after (Bytes r) s n
+    pub written : (after : List ℕ) (r : ℕ) → in_span (dates_by s) n ≡ true → PutsDate s n 0 before after r → WritesInStyle before after (Ok r) s n
     written after r i h =
         let w = h.0 in
         let few = text_length s n w h.1.0 in
         rw (le-leb 12 (length before) room, i) (
           w,
-          (h.1.0, (ap Bytes (omega (arith, h.1.1.behind)), h.1.1.bytes ∙ sets_start w before (omega arith))),
+          (h.1.0, (ap Ok (omega (arith, h.1.1.behind)), h.1.1.bytes ∙ sets_start w before (omega arith))),
         )
 
 -- ---- one text for each day, which reads back as the day
@@ -159,18 +157,18 @@ one_text s n v w p q =
     let same = one_answer_in_calendar c n (on p) (on q) (day_date c n _ _ _ p.is_date) (day_date c n _ _ _ q.is_date) in
     p.text ∙ ap text same ∙ sym q.text
   where
-    on : {w : List ℕ} → IsDateText s n w → DateAnswer
+    on : {w : List ℕ} → IsDateText s n w → Result CalendarDate Refusal
     on t = On t.year t.month t.day
 
-    text : DateAnswer → List ℕ
-    text (On y m d) = date_text (named s y) m d
-    text (NoDate x) = []
+    text : Result CalendarDate Refusal → List ℕ
+    text (Ok (date y m d)) = date_text (named s y) m d
+    text (Err x) = []
 
 -- the line of the grammar that a written date is
 date_spelled : (t : NamedYear) (m d : ℕ) → numeral d ++ point ∷ numeral m ++ ending t ≡ date_text t m d
 date_spelled t m d = simp (append_assoc {A = ℕ})
 
-date_line : (s : Style) (n : ℕ) (w : List ℕ) → IsDateText s n w → (l : Line) × (GoodLine l × ((spell_line l ≡ w) × (line_day l ≡ Day n)))
+date_line : (s : Style) (n : ℕ) (w : List ℕ) → IsDateText s n w → (l : Line) × (GoodLine l × ((spell_line l ≡ w) × (line_day l ≡ Ok n)))
 unfolding spell_line spell_phrase spell_anchor GoodPhrase GoodAnchor line_day phrase_day comes_to stays_in anchor_of day_in_calendar
 date_line s n w t =
     let small = date_small (dates_by s) n t.year t.month t.day t.is_date in (
@@ -181,7 +179,7 @@ date_line s n w t =
 pub seven_bytes : (s : Style) (n : ℕ) (w : List ℕ) → IsDateText s n w → 7 ≤ length w
 seven_bytes s n w t = let l = date_line s n w t in rw l.1.1.0 at (line_length l.0 l.1.0)
 
-pub reads_back : (s : Style) (n : ℕ) (w : List ℕ) → IsDateText s n w → IsDayOfLine w (Day n)
+pub reads_back : (s : Style) (n : ℕ) (w : List ℕ) → IsDateText s n w → IsDayOfLine w (Ok n)
 reads_back s n w t =
     let few = text_length s n w t in
     let some = seven_bytes s n w t in
@@ -189,7 +187,7 @@ reads_back s n w t =
     fit (in_range 1 (length w) 120 (omega arith) (omega arith)) (produced l.0 l.1.0 l.1.1.0 (sym l.1.1.1))
 
 -- ---- one result for each call
-module _ (before a b : List ℕ) (r q : WriteAnswer) where
+module _ (before a b : List ℕ) (r q : Result ℕ Refusal) where
   pub one_refusal : (x : Refusal) → Refuses before a r x → Refuses before b q x → (r ≡ q) × (a ≡ b)
   one_refusal x h g = (h.0 ∙ sym g.0, h.1 ∙ sym g.1)
 
@@ -197,7 +195,7 @@ module _ (before a b : List ℕ) (r q : WriteAnswer) where
       → Puts before a r v → Puts before b q w → (r ≡ q) × (a ≡ b)
   one_put s n v w p k h g =
       let same = one_text s n v w p k in
-      (h.0 ∙ ap (λ (w : List ℕ). Bytes (length w)) same ∙ sym g.0, h.1 ∙ ap (λ (w : List ℕ). over w before) same ∙ sym g.1)
+      (h.0 ∙ ap (λ (w : List ℕ). Ok (length w)) same ∙ sym g.0, h.1 ∙ ap (λ (w : List ℕ). over w before) same ∙ sym g.1)
 
   -- Any two results of the writer are one, in a style.
   pub one_writing_in_style : (s : Style) (n : ℕ) → WritesInStyle before a r s n → WritesInStyle before b q s n → (r ≡ q) × (a ≡ b)

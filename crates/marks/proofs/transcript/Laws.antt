@@ -26,9 +26,8 @@ use Rattle.calendar.specs.declared.refusal.Refusal.TheVariants.{Length, Encoding
 use Rattle.calendar.specs.declared.refusal.Refusal.{Refusal}
 use Rattle.marks.specs.declared.mark.FirstMark.TheVariants.{At, NoMark}
 use Rattle.marks.specs.declared.mark.Mark.{Mark}
-use Rattle.marks.specs.declared.transcript.MarksAnswer.TheVariants.{Marks, NoMarks}
-use Rattle.marks.specs.declared.transcript.MarksAnswer.{MarksAnswer}
 use Rattle.marks.specs.declared.transcript.NextMark.TheVariants.{Next}
+use Rattle.std.specs.Prelude.{Result, Ok, Err}
 
 -- ---- a place
 -- a number behind bytes makes them four longer
@@ -268,17 +267,17 @@ module _ {s before : List ℕ} {place i characters : ℕ} {after : List ℕ} (p 
 
 -- ---- what the calls answer
 module _ (s : List ℕ) (size : ℕ) where
-  pub too_long : 65536 < length s → CountsInSize s size (NoMarks Length)
+  pub too_long : 65536 < length s → CountsInSize s size (Err Length)
   too_long h = inl (λ k. omega arith, refl)
 
   module _ (short : length s ≤ 65536) where
-    pub not_utf8 : (IsUtf8 s → ⊥) → CountsInSize s size (NoMarks Encoding)
+    pub not_utf8 : (IsUtf8 s → ⊥) → CountsInSize s size (Err Encoding)
     not_utf8 h = inr (short, inl (h, refl))
 
-    pub counted_marks : IsUtf8 s → (n : ℕ) → CountsMarks s n → n ≤ size / 20 → CountsInSize s size (Marks n)
+    pub counted_marks : IsUtf8 s → (n : ℕ) → CountsMarks s n → n ≤ size / 20 → CountsInSize s size (Ok n)
     counted_marks u n k room = inr (short, inr (u, inr ((k.0, (k.1.0, omega (arith, k.1.1))), (n, (k, refl)))))
 
-    pub too_few : IsUtf8 s → (n : ℕ) → CountsMarks s n → size / 20 < n → CountsInSize s size (NoMarks Length)
+    pub too_few : IsUtf8 s → (n : ℕ) → CountsMarks s n → size / 20 < n → CountsInSize s size (Err Length)
     too_few u n k many = inr (short, inr (u, inl (λ h. omega (arith, k.1.1, h.1.1, ap length (one_marks h.1.0 k.1.0)), refl)))
 
 -- what follows from a refusal and from an answer follows behind the same conditions
@@ -288,27 +287,27 @@ checked_on R S [] f g h = g h
 checked_on R S (x unless holds ∷ cs) f g (inl h) = inl (h.0, f x h.1)
 checked_on R S (x unless holds ∷ cs) f g (inr h) = inr (h.0, checked_on R S cs f g h.1)
 
-not_refused : {A : Type 0} (n : ℕ) (x : Refusal) → Marks n ≡ NoMarks x → A
+not_refused : {A : Type 0} (n : ℕ) (x : Refusal) → Ok n ≡ Err x → A
 not_refused n x e = let z : ◌≡◌ {A = ℕ} 0 1 = cc in absurd (omega arith)
 
 module _ (s : List ℕ) (size : ℕ) where
-  abbrev ToldBy : MarksAnswer → Refusal → Type 0
-  ToldBy r x = r ≡ NoMarks x
+  abbrev ToldBy : Result ℕ Refusal → Refusal → Type 0
+  ToldBy r x = r ≡ Err x
 
-  pub no_refusal : (n : ℕ) → CountsInSize s size (Marks n) → TellsRefusal s size 0
-  no_refusal n h = checked_on (ToldBy (Marks n)) (λ x. 0 ≡ refusal_number x) (conditions s size) (λ x e. not_refused n x e) (λ k. refl) h
+  pub no_refusal : (n : ℕ) → CountsInSize s size (Ok n) → TellsRefusal s size 0
+  no_refusal n h = checked_on (ToldBy (Ok n)) (λ x. 0 ≡ refusal_number x) (conditions s size) (λ x e. not_refused n x e) (λ k. refl) h
 
   -- what is not refused is not too long
   pub short_enough : (r : ℕ) → r ≡ 0 → TellsRefusal s size r → length s ≤ 65536
   short_enough r z (inl h) = absurd (omega (arith, h.1))
   short_enough r z (inr h) = h.0
 
-  pub refused_by : (x : Refusal) (r : ℕ) → r ≡ refusal_number x → CountsInSize s size (NoMarks x) → TellsRefusal s size r
+  pub refused_by : (x : Refusal) (r : ℕ) → r ≡ refusal_number x → CountsInSize s size (Err x) → TellsRefusal s size r
   refused_by x r e h =
-      checked_on (ToldBy (NoMarks x)) (λ y. r ≡ refusal_number y) (conditions s size) (λ y f. e ∙ ap marks_refusal f)
+      checked_on (ToldBy (Err x)) (λ y. r ≡ refusal_number y) (conditions s size) (λ y f. e ∙ ap marks_refusal f)
       (λ k. not_refused k.0 x (sym k.1.1)) h
 
-  pub to_fill : (n : ℕ) → CountsInSize s size (Marks n) → Fillable s size × CountsMarks s n
+  pub to_fill : (n : ℕ) → CountsInSize s size (Ok n) → Fillable s size × CountsMarks s n
   to_fill n (inl h) = not_refused n Length h.1
   to_fill n (inr (short, inl h)) = not_refused n Encoding h.1
   to_fill n (inr (short, inr (u, inl h))) = not_refused n Length h.1
@@ -319,17 +318,17 @@ module _ (s : List ℕ) (size : ℕ) where
       )
 
 module _ (s before : List ℕ) where
-  pub filled : (n : ℕ) (after : List ℕ) → CountsInSize s (length before) (Marks n) → FillsPlaces s before after
-      → FindsMarks Marks NoMarks s before after (Marks n)
+  pub filled : (n : ℕ) (after : List ℕ) → CountsInSize s (length before) (Ok n) → FillsPlaces s before after
+      → FindsMarks Ok Err s before after (Ok n)
   filled n after h (k, found) =
       let counts = (to_fill s (length before) n h).1 in
       let same : n ≡ k = counts.1.1 ∙ ap length (one_marks counts.1.0 found.are_marks) ∙ sym found.count in
-      checked_on (λ x. Marks n ≡ NoMarks x) (λ x. (Marks n ≡ NoMarks x) × (after ≡ before)) (conditions s (length before))
-      (λ x e. not_refused n x e) (λ l. (k, (found, ap Marks same))) h
+      checked_on (λ x. Ok n ≡ Err x) (λ x. (Ok n ≡ Err x) × (after ≡ before)) (conditions s (length before))
+      (λ x e. not_refused n x e) (λ l. (k, (found, ap Ok same))) h
 
-  pub unfilled : (x : Refusal) → CountsInSize s (length before) (NoMarks x) → FindsMarks Marks NoMarks s before before (NoMarks x)
+  pub unfilled : (x : Refusal) → CountsInSize s (length before) (Err x) → FindsMarks Ok Err s before before (Err x)
   unfilled x h =
-      checked_on (λ y. NoMarks x ≡ NoMarks y) (λ y. (NoMarks x ≡ NoMarks y) × (before ≡ before)) (conditions s (length before))
+      checked_on (λ y. Err x ≡ Err y) (λ y. (Err x ≡ Err y) × (before ≡ before)) (conditions s (length before))
       (λ y e. (e, refl)) (λ k. not_refused k.0 x (sym k.1.1)) h
 
 -- what is made of the answer is found so

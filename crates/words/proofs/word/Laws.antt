@@ -17,6 +17,7 @@ use Rattle.words.specs.Steps.{outer_of, inner_of, held, outer_in, inner_in, feas
 use Rattle.words.specs.Text.{space, point, has}
 use Rattle.words.specs.Told.{Told, produced, unproduced}
 use Rattle.words.specs.Word.{feast_word, feast_words}
+use Rattle.std.specs.Prelude.{Ok}
 
 all_worded : T (each (λ k. every (worded feast_slot feast_word 48 97 (suc k))) 48)
 unfolding worded held within between
@@ -54,7 +55,7 @@ feast_lacks_point f = feast_lacks point f (omega arith)
 pub no_length : (s : List ℕ) → ((4 ≤ length s) × (length s ≤ 12) → ⊥) → Told feast_words (λ n. n) 0 s 0
 no_length s h = unproduced (λ n g e. h (rw e at (feast_length n g.0 g.1))) refl
 
-module _ (s : List ℕ) (bytes : Bytes s) (long : (4 ≤ length s) × (length s ≤ 12)) {o m : ℕ}
+module _ (s : List ℕ) (bytes : Ok s) (long : (4 ≤ length s) × (length s ≤ 12)) {o m : ℕ}
     (ho : o ≡ outer_in feast_slot feast_word 48 (feast_slot s)) (hm : m ≡ inner_in feast_slot feast_word 48 (feast_slot s))
     {r : Bool} (test : r ≡ (eqb (outer_of s (length s)) o && eqb (inner_of s (length s)) (m % 1099511627776))) where
   pub other_word : r ≡ false → Told feast_words (λ n. n) 0 s 0

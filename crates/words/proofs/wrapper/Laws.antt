@@ -29,6 +29,7 @@ use Rattle.words.specs.declared.wrapper.Lead.TheVariants.{Wrapped, Plain}
 use Rattle.words.specs.declared.wrapper.Lead.{Lead}
 use Rattle.words.specs.declared.wrapper.Wrapper.TheVariants.{Eve, Morrow, Octave, First}
 use Rattle.words.specs.declared.wrapper.Wrapper.{Wrapper}
+use Rattle.std.specs.Prelude.{Ok}
 
 -- ---- numbers of wrappers
 abbrev pub number_of : Wrapper → ℕ
@@ -118,7 +119,7 @@ facts =
     by_wrapper (λ w. Facts w (more_of w) (index_of w))
     (search arith, search arith, search arith, search arith depth 20, search arith depth 20, search arith depth 20, search arith depth 20)
 
-small_bytes : (w : Wrapper) → GoodWrapper w → Bytes (wrapper_words w)
+small_bytes : (w : Wrapper) → GoodWrapper w → Ok (wrapper_words w)
 unfolding within between
 small_bytes w g = within_bytes 32 (wrapper_words w) (by_wrapper (λ w. within 32 122 (wrapper_words w) ≡ true) (search depth 20) w g)
 
@@ -230,17 +231,17 @@ no_space s h short = plain (λ w g t e. omega (arith, reads w g t e h, there w g
 
 -- ---- where the fours of s agree with what a slot holds
 -- an index with the bytes more that are told is that of a good wrapper, by its number
-abbrev Known : ℕ → ℕ → Type 0
-Known more x = let w = wrapper_of (bare_number x + if_on_or more 16) in GoodWrapper w × (more_of w ≡ more) × (index_of w ≡ x)
+abbrev Ok : ℕ → ℕ → Type 0
+Ok more x = let w = wrapper_of (bare_number x + if_on_or more 16) in GoodWrapper w × (more_of w ≡ more) × (index_of w ≡ x)
 
-known : {more x : ℕ} → Known more x → (w : Wrapper) × (GoodWrapper w × Facts w more x)
+known : {more x : ℕ} → Ok more x → (w : Wrapper) × (GoodWrapper w × Facts w more x)
 known {more} {x} k = let w = wrapper_of (bare_number x + if_on_or more 16) in (w, (k.0, rw (k.1, k.2) at (facts w k.0)))
 
 -- it is so where the fifth byte of the index's words is the last of the eight that tell "on or after" or "on or before"
 abbrev Lettered : ℕ → ℕ → Type 0
-Lettered more x = four (bare_words x) 3 / 256 % 256 ≡ eight_for more / 72057594037927936 → Known more x
+Lettered more x = four (bare_words x) 3 / 256 % 256 ≡ eight_for more / 72057594037927936 → Ok more x
 
-all_known : Each (Known 0) 17 × Each (Lettered 6) 17 × Each (Lettered 7) 17
+all_known : Each (Ok 0) 17 × Each (Lettered 6) 17 × Each (Lettered 7) 17
 unfolding four
 all_known = (search arith depth 30, search arith depth 40, search arith depth 40)
 
@@ -250,7 +251,7 @@ Standing s l x e more =
     eight_of s ≡ e → l ≡ count_by (four s 3) + more → four s (3 + if_on_or more 6) ≡ four (bare_words x) 3
     → TellsLead s (record { number = bare_number x + if_on_or more 16; length = l })
 
-module _ (s : List ℕ) (bs : Bytes s) {l x : ℕ} (room : l ≤ length s) (good : (1 ≤ x) × (x ≤ 17)) (outer : outer_of s l ≡ outer_for bare_words x) where
+module _ (s : List ℕ) (bs : Ok s) {l x : ℕ} (room : l ≤ length s) (good : (1 ≤ x) × (x ≤ 17)) (outer : outer_of s l ≡ outer_for bare_words x) where
   stands : {more e : ℕ} (w : Wrapper) → GoodWrapper w → Facts w more x → four s 3 ≡ four (wrapper_words w) 3
       → four s (3 + (if_on_or more 6 - 2)) ≡ four (wrapper_words w) (3 + (if_on_or more 6 - 2)) → Standing s l x e more
   stands {more} w g f low high _ el middle =
@@ -281,7 +282,7 @@ module _ (s : List ℕ) (bs : Bytes s) {l x : ℕ} (room : l ≤ length s) (good
   standing : (e : ℕ) → Standing s l x e (more_by e)
   unfolding four
   standing =
-      let k = known (each_at (Known 0) 17 all_known.0 x good) in
+      let k = known (each_at (Ok 0) 17 all_known.0 x good) in
       by_on_or (Standing s l x) (counted refl (omega arith) all_known.1) (counted refl (omega arith) all_known.2)
       (λ e q el middle. let same = middle ∙ sym k.1.1.middle in stands k.0 k.1.0 k.1.1 same same q el middle)
 
@@ -315,7 +316,7 @@ module _ (s : List ℕ) {more l : ℕ} (h : LeadTold s more l) {skip i o m : ℕ
       let none : i ≡ 0 = hi ∙ omega (arith, rw next at em) in
       omega (arith, rw none at (z (λ k. k)))
 
-  pub these_words : Bytes s → l ≤ length s → four s 0 + 4294967296 * four s (l - 4) ≡ o → m % 4294967296 ≡ four s (3 + skip)
+  pub these_words : Ok s → l ≤ length s → four s 0 + 4294967296 * four s (l - 4) ≡ o → m % 4294967296 ≡ four s (3 + skip)
       → {c : ℕ} → c ≡ if_on_or more 16 → TellsLead s (record { number = m / 4294967296 + c; length = l })
   these_words bs room eo em hc =
       elim (holds (λ k. wrapper_slot (bare_words k)) 17 i) [

@@ -5,9 +5,9 @@ use Rattle.calendar.proofs.refusal.Laws.{no_day, passed_day}
 use Rattle.church.proofs.easter.Laws.{both_have, easter_asked, easter_closed}
 use Rattle.calendar.specs.Style.{dates_by}
 use Rattle.church.specs.Easter.{march, has_easter}
-use Rattle.calendar.specs.declared.span.DayAnswer.TheVariants.{Day}
 use Rattle.church.proofs.easter.easter_of_year.Goals as goal
 use Rattle.church.proofs.easter.easter_of_year.Goals.{After-easter_by-easter_calendar, After-equinox-answer, Else-not-has_easter, In-Day}
+use Rattle.std.specs.Prelude.{Ok}
 
 has : (c : Else-not-has_easter)
     → let named = c.args.named in
@@ -21,11 +21,11 @@ has_too c =
 
 is_day : (c : In-Day)
     → let easter = c.before.before in
-    march easter.easter_by-easter_calendar.result easter.args.named.year 21 ≡ c.in-Day.equinox
+    march easter.easter_by-easter_calendar.result easter.args.named.year 21 ≡ c.in-Ok.equinox
 is_day c =
     let easter = c.before.before in
     let year = easter.args.named.year in
-    (passed_day (has_easter easter.easter_by-easter_calendar.result year) _ _ _ (sym c.equinox-answer.ensures ∙ c.in-Day.is)).1
+    (passed_day (has_easter easter.easter_by-easter_calendar.result year) _ _ _ (sym c.equinox-answer.ensures ∙ c.in-Ok.is)).1
 
 pub returns-in_default : goal.returns-in_default
 returns-in_default c =
@@ -42,4 +42,4 @@ returns c =
     let day = (goal.at.returns c).In-Day in
     let easter = day.before.before in
     rw (has easter.before, c.easter_after.ensures, c.limit_of_year.ensures, ← is_day day, ← easter.easter_by-easter_calendar.ensures)
-    (ap Day (easter_closed _ _))
+    (ap Ok (easter_closed _ _))

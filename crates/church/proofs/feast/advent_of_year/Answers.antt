@@ -12,8 +12,8 @@ use Rattle.church.proofs.feast.advent_of_year.Goals.{In-Day}
 
 is_day : (c : In-Day)
     → (served (dates_by c.args.named.style) c.args.named.year ≡ true)
-    × (day_number (dates_by c.args.named.style) c.args.named.year 11 27 ≡ c.in-Day.day)
-is_day c = passed_day _ _ _ _ (sym (c.day_in_year-answer.ensures ∙ november_answer _ _) ∙ c.in-Day.is)
+    × (day_number (dates_by c.args.named.style) c.args.named.year 11 27 ≡ c.in-Ok.day)
+is_day c = passed_day _ _ _ _ (sym (c.day_in_year-answer.ensures ∙ november_answer _ _) ∙ c.in-Ok.is)
 
 pub returns-in_default : goal.returns-in_default
 returns-in_default c =

@@ -23,10 +23,10 @@ hung c =
 
 is_day : (c : In-Day)
     → (has_easter (dates_by c.args.named.style) c.args.named.year ≡ true)
-    × (easter (easter_by c.args.named.style) c.args.named.year ≡ c.in-Day.easter)
-is_day c = passed_day _ _ _ _ (sym c.easter_of_year-answer.ensures ∙ c.in-Day.is)
+    × (easter (easter_by c.args.named.style) c.args.named.year ≡ c.in-Ok.easter)
+is_day c = passed_day _ _ _ _ (sym c.easter_of_year-answer.ensures ∙ c.in-Ok.is)
 
-sizes : (c : In-Day) → (earliest ≤ c.in-Day.easter) × (c.in-Day.easter ≤ latest)
+sizes : (c : In-Day) → (earliest ≤ c.in-Ok.easter) × (c.in-Ok.easter ≤ latest)
 sizes c = rw (← (is_day c).1) (easter_small c.args.named.style _ (is_day c).0)
 
 small : (c : Start) → get_or from_easter (c.args.feast - 1) 0 ≤ 123

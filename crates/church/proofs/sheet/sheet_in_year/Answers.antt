@@ -11,19 +11,19 @@ use Rattle.church.proofs.sheet.sheet_in_year.Goals.{After-second_letter-second, 
 
 is_easter : (c : In-Day)
     → let named = c.args.named in
-    (has_easter (dates_by named.style) named.year ≡ true) × (easter (easter_by named.style) named.year ≡ c.in-Day.day)
-is_easter c = passed_day _ _ _ _ (sym c.easter_of_year.ensures ∙ c.in-Day.is)
+    (has_easter (dates_by named.style) named.year ≡ true) × (easter (easter_by named.style) named.year ≡ c.in-Ok.day)
+is_easter c = passed_day _ _ _ _ (sym c.easter_of_year.ensures ∙ c.in-Ok.is)
 
 has : (c : After-dates_by-date_calendar) → has_easter c.dates_by-date_calendar.result c.args.named.year ≡ true
 has c = rw c.dates_by-date_calendar.ensures (is_easter c.before).0
 
 is_equinox : (c : In-Day-equinox)
     → let dates = c.before.before.before in
-    march dates.dates_by-date_calendar.result dates.args.named.year 21 ≡ c.in-Day-equinox.day
+    march dates.dates_by-date_calendar.result dates.args.named.year 21 ≡ c.in-Ok-equinox.day
 is_equinox c =
     let dates = c.before.before.before in
     let year = dates.args.named.year in
-    (passed_day (has_easter dates.dates_by-date_calendar.result year) _ _ _ (sym c.equinox.ensures ∙ c.in-Day-equinox.is)).1
+    (passed_day (has_easter dates.dates_by-date_calendar.result year) _ _ _ (sym c.equinox.ensures ∙ c.in-Ok-equinox.is)).1
 
 pub overflow_sub-key : goal.overflow_sub-key
 overflow_sub-key c =
