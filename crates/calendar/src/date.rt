@@ -18,58 +18,59 @@ pub struct CalendarDate {
     pub day: u64,
 }
 
+// A month by its number.
+#[derive(Clone, Copy)]
+struct Month {
+    number: u64,
+    ghost in_range: { (1 ≤ number) × (number ≤ 12) },
+}
+
 // The days of each month of a common year.
 const MONTH_LENGTHS: [u8; 12] = [31, 28, 31, 30, 31, 30, 31, 31, 30, 31, 30, 31];
 
-// The days of a month.
-fn month_length(leap_year: bool, month: u64) -> u64
-    requires { (1 ≤ month) × (month ≤ 12) }
-    ensures { result ≡ month_length leap_year month }
-{
-    let i = (month - 1) as usize;
-    let n = MONTH_LENGTHS[i] as u64;
-    if month == 2 {
-        if leap_year {
+impl Month {
+    // The days of the month.
+    fn length(self, leap_year: bool) -> u64
+        ensures { result ≡ month_length leap_year self.number }
+    {
+        if self.number == 2 && leap_year {
             return 29;
         }
+        let i = (self.number - 1) as usize;
+        MONTH_LENGTHS[i] as u64
     }
-    n
-}
 
-// The days of a common year before a month.
-#[tactic(auto, unfolding(crate::specs::Date::days_of_months))]
-fn common_before(month: u64) -> u64
-    requires { (1 ≤ month) × (month ≤ 12) }
-    ensures { result ≡ days_of_months false (pred month) }
-{
-    match month {
-        1 => 0,
-        2 => 31,
-        3 => 59,
-        4 => 90,
-        5 => 120,
-        6 => 151,
-        7 => 181,
-        8 => 212,
-        9 => 243,
-        10 => 273,
-        11 => 304,
-        _ => 334,
-    }
-}
-
-// The days of a year before a month.
-fn days_before(leap_year: bool, month: u64) -> u64
-    requires { (1 ≤ month) × (month ≤ 12) }
-    ensures { result ≡ days_of_months leap_year (pred month) }
-{
-    let n = common_before(month);
-    if leap_year {
-        if month > 2 {
-            return n + 1;
+    // The days of a common year before the month.
+    #[tactic(auto, unfolding(crate::specs::Date::days_of_months))]
+    fn common_before(self) -> u64
+        ensures { result ≡ days_of_months false (pred self.number) }
+    {
+        match self.number {
+            1 => 0,
+            2 => 31,
+            3 => 59,
+            4 => 90,
+            5 => 120,
+            6 => 151,
+            7 => 181,
+            8 => 212,
+            9 => 243,
+            10 => 273,
+            11 => 304,
+            _ => 334,
         }
     }
-    n
+
+    // The days of a year before the month.
+    fn days_before(self, leap_year: bool) -> u64
+        ensures { result ≡ days_of_months leap_year (pred self.number) }
+    {
+        let n = self.common_before();
+        if leap_year && self.number > 2 {
+            return n + 1;
+        }
+        n
+    }
 }
 
 // Whether a year has a month and a day of that month.
@@ -83,7 +84,8 @@ fn is_date(calendar: Calendar, year: u64, month: u64, day: u64) -> bool
     if is_between(1, day, 28) {
         return true;
     }
-    is_between(1, day, month_length(is_leap(calendar, year), month))
+    let its_month = Month { number: month };
+    is_between(1, day, its_month.length(is_leap(calendar, year)))
 }
 
 // The day number of a date.
@@ -125,19 +127,21 @@ pub fn day_of_date(style: u64, year: u64, month: u64, day: u64) -> Result<u32, R
 }
 
 // The month that holds a day of a year, the year's days counted from 0.
-fn month_at(leap_year: bool, day_of_year: u64) -> u64
+fn month_at(leap_year: bool, day_of_year: u64) -> Month
     requires { day_of_year < days_of_months leap_year 12 }
-    ensures { MonthOf leap_year day_of_year result }
+    ensures { MonthOf leap_year day_of_year result.number }
 {
     let estimate = day_of_year / 32 + 1;
     if estimate == 12 {
-        return 12;
+        return Month { number: 12 };
     }
-    let next = days_before(leap_year, estimate + 1);
-    if next <= day_of_year {
-        return estimate + 1;
+    let next = Month {
+        number: estimate + 1,
+    };
+    if next.days_before(leap_year) <= day_of_year {
+        return next;
     }
-    estimate
+    Month { number: estimate }
 }
 
 // The date of a day of a calendar.
@@ -153,8 +157,8 @@ fn date_in_calendar(calendar: Calendar, day: u64) -> Result<CalendarDate, Refusa
     let month = month_at(leap_year, day_of_year);
     Ok(CalendarDate {
         year,
-        month,
-        day: day_of_year - days_before(leap_year, month) + 1,
+        month: month.number,
+        day: day_of_year - month.days_before(leap_year) + 1,
     })
 }
 

@@ -42,18 +42,12 @@ impl From<Refusal> for u32 {
 pub fn number_or_refusal(answer: Result<u32, Refusal>) -> u32
     ensures { result ≡ number_or_refusal answer }
 {
-    match answer {
-        Ok(number) => number,
-        Err(refusal) => u32::from(refusal),
-    }
+    answer.unwrap_or_else(u32::from)
 }
 
 // The number of an answer that is refused, or 0 where it is not.
 pub fn refusal_or_zero<T: Copy>(answer: Result<T, Refusal>) -> u32
     ensures { result ≡ refusal_or_zero answer }
 {
-    match answer {
-        Ok(_) => 0,
-        Err(refusal) => u32::from(refusal),
-    }
+    answer.err().map_or(0, u32::from)
 }

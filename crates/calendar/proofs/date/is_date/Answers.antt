@@ -26,8 +26,8 @@ returns-then-is_between c =
     let long = month_has_days (leap a.calendar a.year) _ m.0 m.1 in
     sym (bounds_date _ _ _ _ (record { month_low = m.0; month_high = m.1; day_low = d.0; day_high = omega arith }))
 
-pub month_length-requires : goal.month_length-requires
-month_length-requires c = range _ _ _ (month_is (goal.at.month_length-requires c).Else-not-is_between)
+pub invariant_of-its_month : goal.invariant_of-its_month
+invariant_of-its_month c = record { in_range = range _ _ _ (month_is (goal.at.invariant_of-its_month c).Else-not-is_between) }
 
 pub returns : goal.returns
 unfolding is_date
@@ -35,6 +35,6 @@ returns c =
     rw (
       month_is (goal.at.returns c).Else-not-is_between,
       c.is_between-3.ensures,
-      c.month_length.ensures,
+      c.length.ensures,
       c.is_leap.ensures,
     )

@@ -10,13 +10,13 @@ before_last c = omega (arith, c.requires, c.if-estimate-eq12.false, months_small
 pub returns-then-estimate-eq12 : goal.returns-then-estimate-eq12
 returns-then-estimate-eq12 c = last_month _ _ c.requires c.if-estimate-eq12.true
 
-pub days_before-next-requires : goal.days_before-next-requires
-days_before-next-requires c = omega (arith, before_last (goal.at.days_before-next-requires c).Else-estimate-eq12)
+pub invariant_of-next : goal.invariant_of-next
+invariant_of-next c = record { in_range = omega (arith, before_last (goal.at.invariant_of-next c).Else-estimate-eq12) }
 
-pub returns-then-next-day_of_year : goal.returns-then-next-day_of_year
-returns-then-next-day_of_year c =
-    next_month _ _ c.requires (before_last (goal.at.returns-then-next-day_of_year c).Else-estimate-eq12)
-    (rw (← c.days_before-next.ensures) c.if-next-day_of_year.true)
+pub returns-then-days_before-day_of_year : goal.returns-then-days_before-day_of_year
+returns-then-days_before-day_of_year c =
+    next_month _ _ c.requires (before_last (goal.at.returns-then-days_before-day_of_year c).Else-estimate-eq12)
+    (rw (← c.days_before.ensures) c.if-days_before-day_of_year.true)
 
 pub returns : goal.returns
-returns c = this_month _ _ c.requires (before_last (goal.at.returns c).Else-estimate-eq12) (rw (← c.days_before-next.ensures) c.if-next-day_of_year.false)
+returns c = this_month _ _ c.requires (before_last (goal.at.returns c).Else-estimate-eq12) (rw (← c.days_before.ensures) c.if-days_before-day_of_year.false)
