@@ -18,6 +18,7 @@ fn days_between(first: u32, second: u32) -> i32
 }
 
 // Distance in days: the first date's refusal, then the second's.
+#[tactic(auto, using(crate::proofs::date::Laws::day_range))]
 pub fn distance_of_dates(
     style1: u64,
     year1: u64,
