@@ -62,6 +62,7 @@ impl Month {
     }
 
     // The days of a year before the month.
+    #[tactic(auto, using(crate::proofs::date::Months::leap_day, crate::proofs::date::Months::months_small))]
     fn days_before(self, leap_year: bool) -> u64
         ensures { result ≡ days_of_months leap_year (pred self.number) }
     {
@@ -74,6 +75,7 @@ impl Month {
 }
 
 // Whether a year has a month and a day of that month.
+#[tactic(auto, using(crate::proofs::range::Laws::range, crate::proofs::date::Dates::bounds_date, crate::proofs::date::Months::month_has_days), unfolding(crate::specs::Date::is_date))]
 fn is_date(calendar: Calendar, year: u64, month: u64, day: u64) -> bool
     ensures { result ≡ is_date calendar year month day }
 {
@@ -100,6 +102,7 @@ fn day_number(calendar: Calendar, year: u64, month: u64, day: u64) -> u64
 }
 
 // The day of a date of a calendar.
+#[tactic(auto, unfolding(crate::specs::Date::day_in_calendar, crate::specs::Span::within))]
 pub fn day_in_calendar(calendar: Calendar, year: u64, month: u64, day: u64) -> Result<u32, Refusal>
     ensures { result ≡ day_in_calendar calendar year month day }
 {
@@ -127,6 +130,7 @@ pub fn day_of_date(style: u64, year: u64, month: u64, day: u64) -> Result<u32, R
 }
 
 // The month that holds a day of a year, the year's days counted from 0.
+#[tactic(auto, using(crate::proofs::date::Months::months_small, crate::proofs::date::Months::last_month, crate::proofs::date::Months::this_month, crate::proofs::date::Months::next_month))]
 fn month_at(leap_year: bool, day_of_year: u64) -> Month
     requires { day_of_year < days_of_months leap_year 12 }
     ensures { MonthOf leap_year day_of_year result.number }
@@ -145,6 +149,7 @@ fn month_at(leap_year: bool, day_of_year: u64) -> Month
 }
 
 // The date of a day of a calendar.
+#[tactic(auto, using(crate::proofs::date::Dates::in_year, crate::proofs::date::Dates::found, crate::proofs::date::Laws::has_day, crate::proofs::date::Laws::day_date, crate::proofs::span::Laws::span_small, crate::proofs::span::Laws::served_small, crate::proofs::span::Laws::year_served_lem))]
 fn date_in_calendar(calendar: Calendar, day: u64) -> Result<CalendarDate, Refusal>
     ensures { IsDateInCalendar calendar day result }
 {

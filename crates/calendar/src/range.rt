@@ -3,6 +3,7 @@ ghost use Rattle.std.specs.Prelude.{◌≡◌};
 ghost use Rattle.calendar.specs.Range.{between};
 
 // Whether n lies from low to high.
+#[tactic(auto, unfolding(crate::specs::Range::between))]
 pub fn is_between(low: u64, n: u64, high: u64) -> bool
     ensures { result ≡ between low n high }
 {

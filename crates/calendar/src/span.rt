@@ -27,6 +27,7 @@ fn last_day(calendar: Calendar) -> u64
 }
 
 // Whether a day lies in the span.
+#[tactic(auto, unfolding(crate::specs::Span::in_span))]
 pub(crate) fn is_in_span(calendar: Calendar, day: u64) -> bool
     ensures { result ≡ in_span calendar day }
 {
@@ -34,6 +35,7 @@ pub(crate) fn is_in_span(calendar: Calendar, day: u64) -> bool
 }
 
 // The day itself where the span has it.
+#[tactic(auto, using(crate::proofs::span::Laws::span_small), unfolding(crate::specs::Span::within))]
 pub fn day_within(calendar: Calendar, day: u64) -> Result<u32, Refusal>
     ensures { result ≡ within calendar day }
 {

@@ -47,6 +47,7 @@ fn first_year(calendar: Calendar) -> u64
 }
 
 // Whether the year is served.
+#[tactic(auto, unfolding(crate::specs::Year::served))]
 pub(crate) fn is_served(calendar: Calendar, year: u64) -> bool
     ensures { result ≡ served calendar year }
 {
@@ -54,6 +55,7 @@ pub(crate) fn is_served(calendar: Calendar, year: u64) -> bool
 }
 
 // The day number of 1 January, in closed form.
+#[tactic(auto, using(crate::proofs::year::Laws::new_year_at, crate::proofs::year::Laws::choices_small))]
 pub(crate) fn new_year(calendar: Calendar, year: u64) -> u64
     requires { (1 ≤ year) × (year ≤ 10000) }
     ensures { result ≡ new_year calendar year }

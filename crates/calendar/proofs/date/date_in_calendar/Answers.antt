@@ -14,16 +14,3 @@ day_is c = held c.is_in_span.ensures c.if-not-is_in_span.false
 
 pub new_year-requires : goal.new_year-requires
 new_year-requires c = omega (arith, served_small _ _ (year_served_lem _ _ _ (day_is (goal.at.new_year-requires c).Else-not-is_in_span) c.year_at-year.ensures))
-
-pub month_at-month-requires : goal.month_at-month-requires
-month_at-month-requires c = rw (c.is_leap-leap_year.ensures, c.new_year.ensures) (in_year _ _ _ c.year_at-year.ensures)
-
-pub overflow_add-result : goal.overflow_add-result
-overflow_add-result c = omega (arith, span_small _ _ (day_is (goal.at.overflow_add-result c).Else-not-is_in_span))
-
-pub returns : goal.returns
-returns c =
-    rw (c.days_before.ensures, c.is_leap-leap_year.ensures, c.new_year.ensures)
-    (day_date _ _ _ _ _ (has_day _ _ _ _ _ (day_is (goal.at.returns c).Else-not-is_in_span)
-    (found _ _ _ _ c.year_at-year.ensures
-    (rw (c.is_leap-leap_year.ensures, c.new_year.ensures) at c.month_at-month.ensures))))
