@@ -75,7 +75,7 @@ impl Month {
 }
 
 // Whether a year has a month and a day of that month.
-#[tactic(auto, using(crate::proofs::range::Laws::range, crate::proofs::date::Dates::bounds_date, crate::proofs::date::Months::month_has_days), unfolding(crate::specs::Date::is_date))]
+#[tactic(auto, using(crate::proofs::date::Dates::date_told), unfolding(crate::specs::Date::is_date))]
 fn is_date(calendar: Calendar, year: u64, month: u64, day: u64) -> bool
     ensures { result ≡ is_date calendar year month day }
 {
@@ -91,6 +91,7 @@ fn is_date(calendar: Calendar, year: u64, month: u64, day: u64) -> bool
 }
 
 // The day number of a date.
+#[tactic(auto, using(crate::proofs::date::Dates::date_bounds, crate::proofs::span::Laws::served_small, crate::proofs::span::Laws::new_year_small))]
 fn day_number(calendar: Calendar, year: u64, month: u64, day: u64) -> u64
     requires { (served calendar year ≡ true) × (is_date calendar year month day ≡ true) }
     ensures { result ≡ day_number calendar year month day }
@@ -130,7 +131,7 @@ pub fn day_of_date(style: u64, year: u64, month: u64, day: u64) -> Result<u32, R
 }
 
 // The month that holds a day of a year, the year's days counted from 0.
-#[tactic(auto, using(crate::proofs::date::Months::months_small, crate::proofs::date::Months::last_month, crate::proofs::date::Months::this_month, crate::proofs::date::Months::next_month))]
+#[tactic(auto, using(crate::proofs::date::Months::month_found))]
 fn month_at(leap_year: bool, day_of_year: u64) -> Month
     requires { day_of_year < days_of_months leap_year 12 }
     ensures { MonthOf leap_year day_of_year result.number }
@@ -149,7 +150,7 @@ fn month_at(leap_year: bool, day_of_year: u64) -> Month
 }
 
 // The date of a day of a calendar.
-#[tactic(auto, using(crate::proofs::date::Dates::in_year, crate::proofs::date::Dates::found, crate::proofs::date::Laws::has_day, crate::proofs::date::Laws::day_date, crate::proofs::span::Laws::span_small, crate::proofs::span::Laws::served_small, crate::proofs::span::Laws::year_served_lem))]
+#[tactic(auto, using(crate::proofs::date::Dates::in_year, crate::proofs::date::Dates::found, crate::proofs::date::Laws::has_day))]
 fn date_in_calendar(calendar: Calendar, day: u64) -> Result<CalendarDate, Refusal>
     ensures { IsDateInCalendar calendar day result }
 {

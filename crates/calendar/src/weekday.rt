@@ -56,7 +56,7 @@ fn latest_of_seven(start: Start, side: Side, day: u32) -> u64
 }
 
 // The first such weekday on a side of a day, which itself counts or not; 0 where there is none.
-#[tactic(auto, using(crate::proofs::range::Laws::range, crate::proofs::range::Laws::in_range, crate::proofs::weekday::Laws::no_weekday, crate::proofs::weekday::Laws::too_early, crate::proofs::weekday::Laws::back_closed, crate::proofs::weekday::Laws::closed, crate::proofs::weekday::Laws::latest_small))]
+#[tactic(auto, using(crate::proofs::weekday::Laws::first_found))]
 pub fn first_weekday(start: Start, side: Side, weekday: u64, day: u32) -> u64
     ensures { result ≡ first_weekday start side weekday day }
 {

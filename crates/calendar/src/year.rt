@@ -55,7 +55,7 @@ pub(crate) fn is_served(calendar: Calendar, year: u64) -> bool
 }
 
 // The day number of 1 January, in closed form.
-#[tactic(auto, using(crate::proofs::year::Laws::new_year_at, crate::proofs::year::Laws::choices_small))]
+#[tactic(auto, using(crate::proofs::year::Laws::new_year_at))]
 pub(crate) fn new_year(calendar: Calendar, year: u64) -> u64
     requires { (1 ≤ year) × (year ≤ 10000) }
     ensures { result ≡ new_year calendar year }
@@ -74,6 +74,7 @@ pub(crate) fn new_year(calendar: Calendar, year: u64) -> u64
 }
 
 // An estimate of the year that holds a day of the span: that year or the one before.
+#[tactic(auto, using(crate::proofs::span::Laws::span_range))]
 fn year_estimate(calendar: Calendar, day: u64) -> u64
     requires { in_span calendar day ≡ true }
     ensures { (1 ≤ result) × (result ≤ 9999) × (new_year calendar result ≤ day) × (day < new_year calendar (result + 2)) }

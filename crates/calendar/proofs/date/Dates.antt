@@ -165,3 +165,6 @@ pub every_day : (c : Calendar) (n : ℕ) → new_year c 1 ≤ n → HasDate c n
 every_day c n h =
     let e : new_year c 1 + (n - new_year c 1) ≡ n = omega arith in
     rw e at (counted_on c (n - new_year c 1))
+
+-- what tells a date from its range of months and days
+pub ruleset date_told = (range, bounds_date)

@@ -107,3 +107,6 @@ module _ (b : Bool) (i : ℕ) (h : i < days_of_months b 12) where
       let e : pred (i / 32 + 1 + 1) ≡ i / 32 + 1 = omega arith in
       let two : i / 32 + 2 ≡ i / 32 + 1 + 1 = omega arith in
       month_is b i (i / 32 + 1) l (rw e at g) (rw two at (month_estimated b i h).1)
+
+-- what finds the month of a day
+pub ruleset month_found = (months_small, last_month, this_month, next_month)

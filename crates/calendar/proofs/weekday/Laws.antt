@@ -5,6 +5,7 @@ use Prim.Native.Nat.{ℕ, suc, pred, ◌+◌, ◌-◌, ◌*◌, ◌%◌, ◌≤�
 use native.Mathlib.Omega.{arith}
 use borrow.Author.Tests.{eq-eqb, ne_eqb}
 use Rattle.calendar.proofs.Searches.{found_later, found_earlier, none_later, none_earlier}
+use Rattle.calendar.proofs.range.Laws.{range, in_range}
 use Rattle.calendar.specs.Steps.{latest_of_seven}
 use Rattle.calendar.specs.Weekday.{weekday, falls_on, search_from, least_away, first_weekday}
 use Rattle.calendar.specs.declared.weekday.Side.TheVariants.{After, Before}
@@ -85,3 +86,6 @@ pub is_earlier : (c : Start) (w n : ℕ) → 1 ≤ w → w ≤ 7 → 7 ≤ n
     (d + least_away c ≤ n) × (n ≤ d + least_away c + 6) × (weekday d ≡ w)
 is_earlier Counted w n low high late = rw (closed Counted Before w n low high (omega arith)) (omega arith)
 is_earlier Uncounted w n low high late = rw (closed Uncounted Before w n low high (omega arith)) (omega arith)
+
+-- what finds the first weekday on a side of a day
+pub ruleset first_found = (range, in_range, no_weekday, too_early, closed)

@@ -2,9 +2,7 @@ use mathlib.Core.Bool.{true}
 use mathlib.Core.Path.{◌≡◌}
 use native.Mathlib.Omega.{arith}
 use Rattle.calendar.proofs.Tested.{held}
-use Rattle.calendar.proofs.date.Dates.{in_year, found}
-use Rattle.calendar.proofs.date.Laws.{has_day, day_date}
-use Rattle.calendar.proofs.span.Laws.{span_small, served_small, year_served_lem}
+use Rattle.calendar.proofs.span.Laws.{served_small, year_served_lem}
 use Rattle.calendar.specs.Span.{in_span}
 use Rattle.calendar.proofs.date.date_in_calendar.Goals as goal
 use Rattle.calendar.proofs.date.date_in_calendar.Goals.{Else-not-is_in_span}

@@ -19,18 +19,6 @@ g_days c =
     let r = rw c.in-Gregorian.is at (span_range _ _ c.requires) in
     omega arith
 
-pub overflow_sub-result : goal.overflow_sub-result
-overflow_sub-result c = omega (arith, j_days (goal.at.overflow_sub-result c).In-Julian)
-
-pub overflow_mul-result : goal.overflow_mul-result
-overflow_mul-result c = omega (arith, j_days (goal.at.overflow_mul-result c).In-Julian)
-
-pub overflow_sub-result-in-Gregorian : goal.overflow_sub-result-in-Gregorian
-overflow_sub-result-in-Gregorian c = omega (arith, g_days (goal.at.overflow_sub-result-in-Gregorian c).In-Gregorian)
-
-pub overflow_mul-result-in-Gregorian : goal.overflow_mul-result-in-Gregorian
-overflow_mul-result-in-Gregorian c = omega (arith, g_days (goal.at.overflow_mul-result-in-Gregorian c).In-Gregorian)
-
 pub returns-in-Julian : goal.returns-in-Julian
 returns-in-Julian c =
     let day = c.args.day in
