@@ -11,39 +11,18 @@ const GREGORIAN: u64 = 2;
 
 const OLD_EASTER: u64 = 3;
 
-const HUGE: u64 = 18446744073709551615;
-
 // One more than the largest 32-bit number: a number that is cut on its way in loses it.
-const CUT: u64 = 4294967296;
-
-fn text(rt: &impl Print, bytes: &[u8]) {
-    let _ = rt.write_all(bytes);
-}
-
-fn spaced(rt: &impl Print, n: u64) {
-    text(rt, b" ");
-    let _ = rt.print(n);
-}
-
-fn bytes_or_refusal(answer: Result<usize, Refusal>) -> u64 {
-    match answer {
-        Ok(count) => count as u64,
-        Err(refusal) => u32::from(refusal) as u64,
-    }
-}
+const CUT: u64 = 1 << 32;
 
 fn ask_with(rt: &impl Print, style: u64, day: u64, buffer: &mut [u8]) {
-    text(rt, b"write");
-    spaced(rt, style);
-    spaced(rt, day);
-    spaced(rt, buffer.len() as u64);
-    text(rt, b":");
-    spaced(rt, bytes_or_refusal(write_date(style, day, buffer)));
-    if buffer.len() > 0 {
-        text(rt, b" ");
-    }
-    text(rt, buffer);
-    text(rt, b"\n");
+    let answer = match write_date(style, day, buffer) {
+        Ok(count) => count,
+        Err(refusal) => u32::from(refusal) as usize,
+    };
+    let gap = if buffer.is_empty() { "" } else { " " };
+    let _ = print!(rt; "write {style} {day} {}: {answer}{gap}", buffer.len());
+    let _ = rt.write_all(buffer);
+    let _ = println!(rt);
 }
 
 fn ask(rt: &impl Print, style: u64, day: u64) {
@@ -52,94 +31,97 @@ fn ask(rt: &impl Print, style: u64, day: u64) {
 
 // A day and its neighbours.
 fn ask_around(rt: &impl Print, style: u64, day: u64) {
-    ask(rt, style, std::num::wrapping_sub_u64(day, 1));
-    ask(rt, style, day);
-    ask(rt, style, std::num::wrapping_add_u64(day, 1));
+    for near in day.wrapping_sub(1)..=day.wrapping_add(1) {
+        ask(rt, style, near);
+    }
 }
 
 fn span_ends(rt: &impl Print) {
-    ask_around(rt, JULIAN, 1721424);
-    ask_around(rt, JULIAN, 5373557);
-    ask_around(rt, GREGORIAN, 2299161);
-    ask_around(rt, GREGORIAN, 5373484);
-    ask_around(rt, OLD_EASTER, 2299161);
-    ask_around(rt, OLD_EASTER, 5373484);
+    for day in [1721424, 5373557] {
+        ask_around(rt, JULIAN, day);
+    }
+    for style in [GREGORIAN, OLD_EASTER] {
+        for day in [2299161, 5373484] {
+            ask_around(rt, style, day);
+        }
+    }
 }
 
 // The Julian dates of the Gregorian style's first day and of the day before.
 fn october_1582(rt: &impl Print) {
-    ask(rt, JULIAN, 2299160);
-    ask(rt, JULIAN, 2299161);
+    for day in [2299160, 2299161] {
+        ask(rt, JULIAN, day);
+    }
 }
 
 // Dates of 7 to 12 bytes.
 fn date_lengths(rt: &impl Print) {
-    ask(rt, JULIAN, 1724597);
-    ask(rt, JULIAN, 1721433);
-    ask(rt, JULIAN, 1721706);
-    ask(rt, JULIAN, 1724993);
-    ask(rt, JULIAN, 1757866);
-    ask(rt, GREGORIAN, 2300796);
-    ask(rt, GREGORIAN, 2451544);
-    ask(rt, OLD_EASTER, 2300796);
-    ask(rt, OLD_EASTER, 2460436);
+    for (style, day) in [
+        (JULIAN, 1724597),
+        (JULIAN, 1721433),
+        (JULIAN, 1721706),
+        (JULIAN, 1724993),
+        (JULIAN, 1757866),
+        (GREGORIAN, 2300796),
+        (GREGORIAN, 2451544),
+        (OLD_EASTER, 2300796),
+        (OLD_EASTER, 2460436),
+    ] {
+        ask(rt, style, day);
+    }
 }
 
 // 29 February, and in the Gregorian 1900 the days about the place where it is left out.
 fn leap_days(rt: &impl Print) {
-    ask(rt, JULIAN, 1722578);
-    ask(rt, JULIAN, 2415092);
-    ask(rt, GREGORIAN, 2415079);
-    ask(rt, GREGORIAN, 2415080);
-    ask(rt, GREGORIAN, 2451604);
-    ask(rt, GREGORIAN, 2460370);
-    ask(rt, OLD_EASTER, 2415079);
-    ask(rt, OLD_EASTER, 2415080);
-    ask(rt, OLD_EASTER, 2460370);
-}
-
-fn ask_in_buffers(rt: &impl Print, style: u64, day: u64) {
-    ask_with(rt, style, day, &mut [b'#'; 0]);
-    ask_with(rt, style, day, &mut [b'#'; 7]);
-    ask_with(rt, style, day, &mut [b'#'; 11]);
-    ask_with(rt, style, day, &mut [b'#'; 12]);
-    ask_with(rt, style, day, &mut [b'#'; 13]);
+    for (style, day) in [
+        (JULIAN, 1722578),
+        (JULIAN, 2415092),
+        (GREGORIAN, 2415079),
+        (GREGORIAN, 2415080),
+        (GREGORIAN, 2451604),
+        (GREGORIAN, 2460370),
+        (OLD_EASTER, 2415079),
+        (OLD_EASTER, 2415080),
+        (OLD_EASTER, 2460370),
+    ] {
+        ask(rt, style, day);
+    }
 }
 
 // The shortest date, the longest, and a day outside the span.
 fn buffers(rt: &impl Print) {
-    ask_in_buffers(rt, JULIAN, 1721424);
-    ask_in_buffers(rt, GREGORIAN, 5373484);
-    ask_in_buffers(rt, GREGORIAN, 5373485);
-    ask_in_buffers(rt, OLD_EASTER, 5373484);
-    ask_in_buffers(rt, OLD_EASTER, 5373485);
+    for (style, day) in [
+        (JULIAN, 1721424),
+        (GREGORIAN, 5373484),
+        (GREGORIAN, 5373485),
+        (OLD_EASTER, 5373484),
+        (OLD_EASTER, 5373485),
+    ] {
+        ask_with(rt, style, day, &mut [b'#'; 0]);
+        ask_with(rt, style, day, &mut [b'#'; 7]);
+        ask_with(rt, style, day, &mut [b'#'; 11]);
+        ask_with(rt, style, day, &mut [b'#'; 12]);
+        ask_with(rt, style, day, &mut [b'#'; 13]);
+    }
 }
 
 // A good rest, a day outside the span, a short buffer, and both.
-fn ask_of_bad_style(rt: &impl Print, style: u64) {
-    ask(rt, style, 2460370);
-    ask(rt, style, 0);
-    ask_with(rt, style, 2460370, &mut [b'#'; 11]);
-    ask_with(rt, style, 0, &mut [b'#'; 0]);
-}
-
 fn bad_styles(rt: &impl Print) {
-    ask_of_bad_style(rt, 0);
-    ask_of_bad_style(rt, 4);
-    ask_of_bad_style(rt, HUGE);
+    for style in [0, 4, u64::MAX] {
+        ask(rt, style, 2460370);
+        ask(rt, style, 0);
+        ask_with(rt, style, 2460370, &mut [b'#'; 11]);
+        ask_with(rt, style, 0, &mut [b'#'; 0]);
+    }
 }
 
 // The last day looks like a day of every span once it is cut to 32 bits.
-fn ask_of_bad_days(rt: &impl Print, style: u64) {
-    ask(rt, style, 0);
-    ask(rt, style, HUGE);
-    ask(rt, style, std::num::wrapping_add_u64(CUT, 2460370));
-}
-
 fn bad_days(rt: &impl Print) {
-    ask_of_bad_days(rt, JULIAN);
-    ask_of_bad_days(rt, GREGORIAN);
-    ask_of_bad_days(rt, OLD_EASTER);
+    for style in [JULIAN, GREGORIAN, OLD_EASTER] {
+        for day in [0, u64::MAX, CUT + 2460370] {
+            ask(rt, style, day);
+        }
+    }
 }
 
 fn main(rt: HostRuntime) {
