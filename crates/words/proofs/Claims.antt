@@ -1,7 +1,7 @@
 -- What holds of the words and numerals beyond the contracts of their calls.
 use mathlib.Core.List.{List, ◌++◌}
 use mathlib.Core.Logic.{◌↔◌}
-use mathlib.Core.Path.{◌≡◌, refl, ap, subst}
+use mathlib.Core.Path.{◌≡◌, refl, subst}
 use Prim.Native.Nat.{ℕ, ◌-◌, ◌≤◌}
 use native.Mathlib.Omega.{arith}
 use lib.ListN.{length, drop}
@@ -10,15 +10,13 @@ use Rattle.words.proofs.Told.{one_told}
 use Rattle.words.proofs.numeral.Laws.{one_numeral, numeral_digits, digits_read, whole}
 use Rattle.words.proofs.text.Laws.{not_later}
 use Rattle.words.proofs.word.Laws as word_laws
-use Rattle.words.proofs.wrapper.Laws as wrapper_laws
-use Rattle.words.proofs.wrapper.Laws.{one_leading, words_some}
+use Rattle.words.proofs.wrapper.Laws.{one_leading}
+use Rattle.std.specs.Prelude.{Option, Some, None}
 use Rattle.words.specs.Numeral.{numeral, YearDigits, numerals}
 use Rattle.words.specs.Text.{BehindLast}
 use Rattle.words.specs.Told.{Told, produced, unproduced}
 use Rattle.words.specs.Word.{feast_words}
-use Rattle.words.specs.Wrapper.{wrapper_words, GoodWrapper, leadings, lead, lead_words, lead_length, TellsLead}
-use Rattle.words.specs.declared.wrapper.Found.{Found}
-use Rattle.words.specs.declared.wrapper.Lead.TheVariants.{Plain}
+use Rattle.words.specs.Wrapper.{wrapper_words, GoodWrapper, leadings, lead}
 use Rattle.words.specs.declared.wrapper.Lead.{Lead}
 use Rattle.words.specs.declared.wrapper.Wrapper.{Wrapper}
 
@@ -32,33 +30,30 @@ year_digits s = (
 )
 
 -- Bytes are the numeral of at most one number.
-pub one_number : (high : ℕ) (s : List ℕ) (r q : ℕ) → Told (numerals high) (λ n. n) 0 s r → Told (numerals high) (λ n. n) 0 s q → r ≡ q
+pub one_number : (high : ℕ) (s : List ℕ) (r q : Option ℕ) → Told (numerals high) Some None s r → Told (numerals high) Some None s q → r ≡ q
 one_number high s r q h k = one_told (one_numeral high) r q h k
 
 -- Bytes are the word of at most one feast.
-pub one_feast : (s : List ℕ) (r q : ℕ) → Told feast_words (λ n. n) 0 s r → Told feast_words (λ n. n) 0 s q → r ≡ q
+pub one_feast : (s : List ℕ) (r q : Option ℕ) → Told feast_words Some None s r → Told feast_words Some None s q → r ≡ q
 one_feast s r q h k = one_told word_laws.one_feast r q h k
 
 -- A phrase begins with the words of at most one wrapper.
-pub one_lead : (s : List ℕ) (r q : Lead) → Told leadings lead Plain s r → Told leadings lead Plain s q → r ≡ q
+pub one_lead : (s : List ℕ) (r q : Option Lead) → Told leadings (λ x. Some (lead x)) None s r → Told leadings (λ x. Some (lead x)) None s q → r ≡ q
 one_lead s r q h k = one_told one_leading r q h k
 
--- So its number and its length are one.
-pub one_found : (s : List ℕ) (r q : Found) → TellsLead s r → TellsLead s q → r ≡ q
-one_found s r q h k = wrapper_laws.one_found s r q h k
+-- The words of the wrapper that a phrase is told to begin with stand at its start, and their number of bytes is told.
+pub lead_stands : (s : List ℕ) (r : Lead) → Told leadings (λ x. Some (lead x)) None s (Some r)
+    → (wrapper_words r.wrapper ++ drop r.length s ≡ s) × (r.length ≡ length (wrapper_words r.wrapper))
+lead_stands s r (produced x g e m) =
+    let same : r ≡ lead x = cc in
+    rw (same, ← e) (rw (drop-append_seam (wrapper_words x.wrapper) x.rest), refl)
+lead_stands s r (unproduced n m) = absurd (cc)
 
--- The words that a phrase is told to begin with stand at its start, and their number of bytes is told.
-pub lead_stands : (s : List ℕ) (r : Lead) → Told leadings lead Plain s r
-    → (lead_words r ++ drop (lead_length r) s ≡ s) × (lead_length r ≡ length (lead_words r))
-lead_stands s r (produced x g e m) = rw (m, ← e) (rw (drop-append_seam (wrapper_words x.wrapper) x.rest), refl)
-lead_stands s r (unproduced n m) = rw m (refl, refl)
-
--- The number of bytes is 0 exactly when no wrapper's words stand there.
-pub lead_none : (s : List ℕ) (r : Lead) → Told leadings lead Plain s r
-    → (lead_length r ≡ 0) ↔ ((w : Wrapper) (t : List ℕ) → GoodWrapper w → wrapper_words w ++ t ≡ s → ⊥)
-lead_none s r (produced x g e m) =
-    (λ z. absurd (omega (arith, words_some x.wrapper, ap lead_length m)), λ none. absurd (none x.wrapper x.rest g e))
-lead_none s r (unproduced n m) = (λ z w t. n (record { wrapper = w; rest = t }), λ none. ap lead_length m)
+-- No wrapper is told exactly when no wrapper's words stand there.
+pub lead_none : (s : List ℕ) (r : Option Lead) → Told leadings (λ x. Some (lead x)) None s r
+    → (r ≡ None) ↔ ((w : Wrapper) (t : List ℕ) → GoodWrapper w → wrapper_words w ++ t ≡ s → ⊥)
+lead_none s r (produced x g e m) = (λ z. absurd (cc), λ none. absurd (none x.wrapper x.rest g e))
+lead_none s r (unproduced n m) = (λ z w t. n (record { wrapper = w; rest = t }), λ none. m)
 
 -- Bytes have one place behind the last of a kind.
 pub one_place : (c : ℕ) (s : List ℕ) (i j : ℕ) → BehindLast c s i → BehindLast c s j → i ≡ j

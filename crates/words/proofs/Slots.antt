@@ -18,20 +18,19 @@ use Rattle.words.proofs.text.Laws.{no_false, within, within_at}
 use Rattle.calendar.specs.Range.{between}
 use Rattle.words.specs.Steps.{four, outer_of, inner_of, held, outer_for, inner_for, outer_in, inner_in}
 use Rattle.words.specs.Text.{has}
-use Rattle.std.specs.Prelude.{Ok}
 
 -- ---- four bytes packed into a number tell the bytes
-abbrev pub Ok : List ℕ → Type 0
-Ok s = (i : ℕ) → get_or s i 0 < 256
+abbrev pub Bytes : List ℕ → Type 0
+Bytes s = (i : ℕ) → get_or s i 0 < 256
 
-pub within_bytes : (low : ℕ) (s : List ℕ) → within low 122 s ≡ true → Ok s
+pub within_bytes : (low : ℕ) (s : List ℕ) → within low 122 s ≡ true → Bytes s
 within_bytes low s e i =
     elim (dec_lt i (length s)) [
       | yes h ↦ omega (arith, within_at low 122 s e i h)
       | no h ↦ rw (get_or-eq_default s 0 {n = i} (omega arith)) (omega arith)
     ]
 
-pub small_four : (s : List ℕ) → Ok s → (p : ℕ) → four s p < 4294967296
+pub small_four : (s : List ℕ) → Bytes s → (p : ℕ) → four s p < 4294967296
 unfolding four
 small_four s b p = omega (arith, b p, b (p + 1), b (p + 2), b (p + 3))
 
@@ -51,7 +50,7 @@ abbrev pub SameFours : (s w : List ℕ) → List ℕ → Type 0
 SameFours s w [] = Unit
 SameFours s w (p ∷ ps) = (four s p ≡ four w p) × SameFours s w ps
 
-module _ (s w : List ℕ) (bs : Ok s) (bw : Ok w) where
+module _ (s w : List ℕ) (bs : Bytes s) (bw : Bytes w) where
   same_four : (p : ℕ) → four s p ≡ four w p → (i : ℕ) → p ≤ i → i < p + 4 → get_or s i 0 ≡ get_or w i 0
   unfolding four
   same_four p e i low high = at (i - p) (omega arith) (omega arith)
@@ -84,7 +83,7 @@ module _ (s w : List ℕ) (bs : Ok s) (bw : Ok w) where
       ap (λ (l : List ℕ). l ++ drop (length w) s) same ∙ take-append-drop (length w) s
 
 -- two fours in one number
-pub both_fours : (s w : List ℕ) → Ok s → Ok w → (a b c d : ℕ) → four s a + 4294967296 * four s b ≡ four w c + 4294967296 * four w d
+pub both_fours : (s w : List ℕ) → Bytes s → Bytes w → (a b c d : ℕ) → four s a + 4294967296 * four s b ≡ four w c + 4294967296 * four w d
     → (four s a ≡ four w c) × (four s b ≡ four w d)
 both_fours s w bs bw a b c d e = omega (arith, small_four s bs a, small_four w bw c)
 
@@ -142,7 +141,7 @@ module _ (slot_of : List ℕ → ℕ) (spelled : ℕ → List ℕ) (n low : ℕ)
     unfolding worded
     letters = tested (worded slot_of spelled n low) n t x good.0 good.1 2
 
-    pub its_bytes : Ok (spelled x)
+    pub its_bytes : Bytes (spelled x)
     its_bytes = within_bytes low (spelled x) letters
 
     pub holds_it : (f : ℕ → ℕ) → held (λ k. slot_of (spelled k)) f n (slot_of (spelled x)) ≡ f x
@@ -156,7 +155,7 @@ module _ (slot_of : List ℕ → ℕ) (spelled : ℕ → List ℕ) (n low : ℕ)
   pub one_slot : (x y : ℕ) → (1 ≤ x) × (x ≤ n) → (1 ≤ y) × (y ≤ n) → slot_of (spelled x) ≡ slot_of (spelled y) → x ≡ y
   one_slot x y gx gy e = sym (its_slot x gx) ∙ ap (λ (i : ℕ). held (λ k. slot_of (spelled k)) (λ k. k) n i) e ∙ its_slot y gy
 
-  module _ {s : List ℕ} (bytes : Ok s) (i : ℕ) {k o m : ℕ} (inside : (4 ≤ k) × (k ≤ 12) × (k ≤ length s))
+  module _ {s : List ℕ} (bytes : Bytes s) (i : ℕ) {k o m : ℕ} (inside : (4 ≤ k) × (k ≤ 12) × (k ≤ length s))
       (ho : o ≡ outer_in slot_of spelled n i) (hm : m ≡ inner_in slot_of spelled n i)
       {r : Bool} (test : r ≡ (eqb (outer_of s k) o && eqb (inner_of s k) (m % 1099511627776))) where
     -- a word that passes the comparison stands at the start

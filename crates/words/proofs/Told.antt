@@ -1,8 +1,8 @@
 -- What bytes tell by any grammar.
 use mathlib.Core.List.{List}
 use mathlib.Core.Path.{◌≡◌, sym, ◌∙◌, ap}
-use Prim.Native.Nat.{ℕ, ◌<◌, ◌≤◌}
-use native.Mathlib.Omega.{arith}
+use Prim.Native.Nat.{ℕ, ◌≤◌}
+use Rattle.std.specs.Prelude.{Some, None}
 use Rattle.words.specs.Numeral.{numbers}
 use Rattle.words.specs.Told.{Grammar, Told, produced, unproduced}
 
@@ -24,10 +24,10 @@ module _ {g : Grammar} {R : Type 0} {meaning : g.Tree → R} {other : R} {s : Li
   told_map f r (unproduced n m) = unproduced n (ap f m)
 
 module _ {high : ℕ} {spelled : ℕ → List ℕ} {s : List ℕ} where
-  pub number_told : (r : ℕ) → Told (numbers high spelled) (λ n. n) 0 s r → 0 < r → ((1 ≤ r) × (r ≤ high)) × (spelled r ≡ s)
-  number_told r (produced n g e m) h = rw m (g, e)
-  number_told r (unproduced n m) h = absurd (omega arith)
+  pub number_told : (r : ℕ) → Told (numbers high spelled) Some None s (Some r) → ((1 ≤ r) × (r ≤ high)) × (spelled r ≡ s)
+  number_told r (produced n g e m) = let same : r ≡ n = cc in rw same (g, e)
+  number_told r (unproduced n m) = absurd (cc)
 
-  pub number_untold : (r : ℕ) → Told (numbers high spelled) (λ n. n) 0 s r → r ≡ 0 → (n : ℕ) → 1 ≤ n → n ≤ high → spelled n ≡ s → ⊥
-  number_untold r (produced n g e m) z k low h f = absurd (omega (arith, g))
-  number_untold r (unproduced n m) z k low h e = n k (low, h) e
+  pub number_untold : Told (numbers high spelled) Some None s None → (n : ℕ) → 1 ≤ n → n ≤ high → spelled n ≡ s → ⊥
+  number_untold (produced n g e m) k low h f = cc
+  number_untold (unproduced n m) k low h e = n k (low, h) e

@@ -1,13 +1,11 @@
 -- What the private functions of the words answer. No public promise is stated by these.
-use Rattle.std.specs.Prelude.{Bool, true, false, cond, List, ◌++◌, ◌≡◌, ℕ, zero, suc, pred, ◌+◌, ◌-◌, ◌*◌, ◌/◌, ◌%◌, ◌≤◌, min, eqb, ltb, length, get_or}
-use Prim.Native.Char.{code}
+use Rattle.std.specs.Prelude.{Bool, true, false, cond, List, ◌++◌, ◌≡◌, ℕ, zero, suc, pred, ◌+◌, ◌-◌, ◌*◌, ◌/◌, ◌%◌, ◌≤◌, eqb, ltb, length, get_or}
 use Rattle.words.specs.Text.{bytes}
-use Rattle.words.specs.Wrapper.{wrapper_words, GoodWrapper, wrapper_of}
+use Rattle.words.specs.Wrapper.{wrapper_words, GoodWrapper}
+use Rattle.calendar.specs.declared.weekday.Side.TheVariants.{After, Before}
+use Rattle.calendar.specs.declared.weekday.Start.TheVariants.{Counted, Uncounted}
+use Rattle.words.specs.declared.wrapper.Wrapper.TheVariants.{Eve, Morrow, Octave, First}
 use Rattle.words.specs.declared.wrapper.Wrapper.{Wrapper}
-
--- a byte's value as a digit; 10 or more where it is none
-abbrev pub digit_value : ℕ → ℕ
-digit_value x = 10 * min 1 (code "0" - x) + (x - code "0")
 
 -- ---- words by their slots
 -- the four bytes from a place on as one number, the first the lowest
@@ -48,6 +46,14 @@ feast_slot s = (35 * get_or s 0 0 + 10 * get_or s 2 0 + 16 * length s) % 128
 -- the slot of a wrapper's words, by three bytes
 abbrev pub wrapper_slot : List ℕ → ℕ
 wrapper_slot s = (2 * get_or s 1 0 + 4 * get_or s 2 0 + get_or s 4 0) % 32
+
+-- the wrappers by number: a weekday's own, with 8 added for "before" and 16 where the starting day counts; 0, 8 and 32 for the others
+abbrev pub wrapper_of : ℕ → Wrapper
+wrapper_of n =
+    cond (eqb n 0) Eve
+    (cond (eqb n 8) Morrow
+    (cond (eqb n 32) Octave
+    (First (cond (ltb n 16) Uncounted Counted) (cond (eqb (n / 8 % 2) 0) After Before) (n % 8))))
 
 -- the numbers of the seventeen wrappers without "on or", and their words
 abbrev pub bare_number : ℕ → ℕ

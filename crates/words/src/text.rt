@@ -40,12 +40,5 @@ pub(crate) fn is_word(text: &[u8], count: usize, outer: u64, inner: u64) -> bool
 pub fn behind_last(text: &[u8], byte: u8) -> usize
     ensures { BehindLast byte text.now result }
 {
-    let mut i = text.len();
-    while i > 0 {
-        if text[i - 1] == byte {
-            return i;
-        }
-        i -= 1;
-    }
-    0
+    text.iter().rposition(|&b| b == byte).map_or(0, |i| i + 1)
 }

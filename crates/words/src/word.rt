@@ -1,11 +1,14 @@
 // The feast words: each has a slot, told by two of its bytes and its length, and is then compared with what the slot holds. A word has 4 to 12 bytes, so
 // that its first four, its last four and the four in its middle cover it; as numbers they have the first byte lowest, and so read backwards.
-ghost use Rattle.std.specs.Prelude.{◌≡◌, ◌+◌, ◌*◌, ◌%◌, ◌≤◌};
+ghost use Rattle.std.specs.Prelude.{◌≡◌, ◌+◌, ◌*◌, ◌%◌, ◌≤◌, Some, None};
 ghost use Rattle.words.specs.Steps.{outer_in, inner_in, feast_slot};
 ghost use Rattle.words.specs.Told.{Told};
 ghost use Rattle.words.specs.Word.{feast_word, feast_words};
 
 use crate::text::is_word;
+
+// What a feast's number is multiplied by in inner_in.
+const FEAST: u64 = 1 << 40;
 
 // The first four and the last four bytes of the word in a slot, as one number.
 #[tactic(auto, unfolding(crate::specs::Steps::four, crate::specs::Steps::held))]
@@ -131,21 +134,18 @@ fn slot(first: u8, third: u8, count: usize) -> usize
     (35 * first as usize + 10 * third as usize + 16 * count) % 128
 }
 
-// The number of the feast whose word it is, or 0.
-pub fn feast_of_word(word: &[u8]) -> u64
-    ensures { Told feast_words (λ n. n) 0 word.now result }
+// The number of the feast whose word it is.
+pub fn feast_of_word(word: &[u8]) -> Option<u64>
+    ensures { Told feast_words Some None word.now result }
 {
+    let [first, _, third, _, ..] = word else {
+        return None;
+    };
     let length = word.len();
-    if length < 4 {
-        return 0;
-    }
     if length > 12 {
-        return 0;
+        return None;
     }
-    let slot = slot(word[0], word[2], length);
+    let slot = slot(*first, *third, length);
     let inner = inner_in(slot);
-    if !is_word(word, length, outer_in(slot), inner % 1099511627776) {
-        return 0;
-    }
-    inner / 1099511627776
+    is_word(word, length, outer_in(slot), inner % FEAST).then_some(inner / FEAST)
 }

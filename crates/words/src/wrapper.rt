@@ -1,14 +1,18 @@
 // Wrappers: each without "on or" has a slot, told by three bytes, and is then compared with what the slot holds, as feast words are. Where "on or" stands
 // behind a weekday, it is passed over, and what remains is told in the same way.
-ghost use Rattle.std.specs.Prelude.{cond, ◌≡◌, ◌+◌, ◌*◌, ◌%◌, ◌≤◌, eqb, length};
-ghost use Rattle.words.specs.Steps.{wrapper_outer, wrapper_middle, count_by, MayLead, eight_of, more_by, LeadTold};
-ghost use Rattle.words.specs.Wrapper.{TellsLead};
+ghost use Rattle.std.specs.Prelude.{cond, ◌≡◌, ◌+◌, ◌*◌, ◌%◌, ◌≤◌, eqb, length, Some, None};
+ghost use Rattle.words.specs.Steps.{wrapper_outer, wrapper_middle, count_by, MayLead, eight_of, more_by, wrapper_of, LeadTold};
+ghost use Rattle.words.specs.Told.{Told};
+ghost use Rattle.words.specs.Wrapper.{leadings, lead};
 
 use crate::text::{four_at, pack8};
 use calendar::weekday::{Side, Start};
 
+// What a wrapper's number is multiplied by in middle_in.
+const WRAPPER: u64 = 1 << 32;
+
 // What stands before a phrase and moves its day, as the definitions have it; the code goes by numbers.
-#[derive(Clone, Copy)]
+#[derive(Clone, Copy, PartialEq, Eq)]
 pub enum Wrapper {
     Eve,
     Morrow,
@@ -17,17 +21,10 @@ pub enum Wrapper {
     First(Start, Side, u64),
 }
 
-// The wrapper at the start of a phrase and the length of its words, or none, as the definitions have it.
-#[derive(Clone, Copy)]
-pub enum Lead {
-    Wrapped(Wrapper, usize),
-    Plain,
-}
-
-// The number of a wrapper and the length of its words; 0 and 0 for none.
-#[derive(Clone, Copy)]
-pub struct Found {
-    pub number: u64,
+// The wrapper at the start of a phrase, and the length of its words.
+#[derive(Clone, Copy, PartialEq, Eq)]
+pub struct Lead {
+    pub wrapper: Wrapper,
     pub length: usize,
 }
 
@@ -154,48 +151,64 @@ fn if_counted(more: usize, number: usize) -> usize
     if more == 0 { 0 } else { number }
 }
 
-fn no_lead() -> Found
-    ensures { result ≡ record { number = 0; length = 0 } }
+// The wrapper with a number.
+fn wrapper_of(number: u64) -> Wrapper
+    ensures { result ≡ wrapper_of number }
 {
-    Found {
-        number: 0,
-        length: 0,
+    match number {
+        0 => Wrapper::Eve,
+        8 => Wrapper::Morrow,
+        32 => Wrapper::Octave,
+        _ => {
+            let start = if number < 16 {
+                Start::Uncounted
+            } else {
+                Start::Counted
+            };
+            let side = if number / 8 % 2 == 0 {
+                Side::After
+            } else {
+                Side::Before
+            };
+            Wrapper::First(start, side, number % 8)
+        }
     }
 }
 
 // The wrapper whose words a phrase begins with, if they are those in the slot that its first bytes tell: they are compared with what the slot holds.
-fn lead_by(phrase: &[u8], more: usize, count: usize) -> Found
+fn lead_by(phrase: &[u8], more: usize, count: usize) -> Option<Lead>
     requires { LeadTold phrase.now more count × (count ≤ length phrase.now) }
-    ensures { TellsLead phrase.now result }
+    ensures { Told leadings (λ x. Some (lead x)) None phrase.now result }
 {
     let skip = if_counted(more, 6);
     let slot = slot(phrase[1], phrase[2], phrase[4 + skip]);
     if pack8(four_at(phrase, 0), four_at(phrase, count - 4)) != outer_in(slot) {
-        return no_lead();
+        return None;
     }
     let told = middle_in(slot);
-    if told % 4294967296 != four_at(phrase, 3 + skip) as u64 {
-        return no_lead();
+    if told % WRAPPER != u64::from(four_at(phrase, 3 + skip)) {
+        return None;
     }
     // Where the starting day counts, the number is by 16 greater.
-    Found {
-        number: told / 4294967296 + if_counted(more, 16) as u64,
+    let number = told / WRAPPER + if_counted(more, 16) as u64;
+    Some(Lead {
+        wrapper: wrapper_of(number),
         length: count,
-    }
+    })
 }
 
 // The wrapper that a phrase begins with.
-pub fn lead_of(phrase: &[u8]) -> Found
-    ensures { TellsLead phrase.now result }
+pub fn lead_of(phrase: &[u8]) -> Option<Lead>
+    ensures { Told leadings (λ x. Some (lead x)) None phrase.now result }
 {
     if !may_lead(phrase) {
-        return no_lead();
+        return None;
     }
     let eight = eight_of(phrase);
     let more = more_by(eight);
     let count = count_by(eight % 4294967296) + more;
     if phrase.len() < count {
-        return no_lead();
+        return None;
     }
     lead_by(phrase, more, count)
 }

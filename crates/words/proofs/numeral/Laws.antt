@@ -1,19 +1,22 @@
 -- Numerals: what they are made of, by tests that antt computes at each number, and how one grows by a digit.
 use mathlib.Core.Bool.{Bool, true, false, ◌||◌, cond}
 use mathlib.Core.List.{List, [], ◌∷◌, ◌++◌}
-use mathlib.Core.Logic.{◌⊎◌, inl, inr}
 use mathlib.Core.Path.{◌≡◌, refl, sym, ◌∙◌, ap, subst}
 use Prim.Native.Nat.{ℕ, zero, suc, ◌+◌, ◌-◌, ◌*◌, ◌/◌, ◌%◌, ◌<◌, ◌≤◌, min}
 use native.Mathlib.Decide.{dec_lt}
 use native.Mathlib.Numerals.{add-one}
 use native.Mathlib.Omega.{arith}
-use lib.Dec.{eqb, ltb}
-use lib.ListN.{length, take, get_or, length-append}
+use lib.Dec.{eqb, ltb, leb}
+use lib.ListN.{length, take, drop, get_or, length-append}
 use lib.Seq.{length-take-le, take_all, take-suc}
 use borrow.Author.Tests.{eqb-true, ltb-true, lt-ltb, le-ltb}
 use Rattle.words.proofs.Tests.{tested}
 use Rattle.words.proofs.Told.{OneReading}
-use Rattle.words.proofs.text.Laws.{within, within_at, within_lacks}
+use Rattle.std.proofs.lemmas.Bool.{le-leb, lt-leb}
+use Rattle.std.proofs.lemmas.Grind.{get_or_after_one}
+use Rattle.words.proofs.text.Laws.{within, within_at, within_lacks, rest}
+use Rattle.std.specs.Bool.{then_some}
+use Rattle.std.specs.Prelude.{Some, None}
 use Rattle.calendar.specs.Range.{between}
 use Rattle.words.specs.Numeral.{digit, decimal, numeral, YearDigits, numerals}
 use Rattle.words.specs.Text.{has}
@@ -103,33 +106,33 @@ numeral_length n = decimal_length 19 n
 pub more_length : (n : ℕ) → 10 ≤ n → n ≤ 18446744073709551616 → length (numeral n) ≡ length (numeral (n / 10)) + 1
 more_length n low high = ap length (more_digits n low high) ∙ length-append (numeral (n / 10)) (digit (n % 10) ∷ [])
 
-short : (k n : ℕ) → n < tens k → n ≤ 18446744073709551616 → length (numeral n) ≤ suc k
+few_digits : (k n : ℕ) → n < tens k → n ≤ 18446744073709551616 → length (numeral n) ≤ suc k
 unfolding tens
-short zero n h high = rw (one_digit n (omega arith)) (omega arith)
-short (suc k) n h high =
+few_digits zero n h high = rw (one_digit n (omega arith)) (omega arith)
+few_digits (suc k) n h high =
     elim (dec_lt n 10) [
       | yes l ↦ rw (one_digit n (omega arith)) (omega arith)
       | no l ↦
           let more = more_length n (omega arith) high in
-          let less = short k (n / 10) (omega arith) (omega arith) in
+          let less = few_digits k (n / 10) (omega arith) (omega arith) in
           omega arith
     ]
 
 pub two_digits : (n : ℕ) → n ≤ 99 → length (numeral n) ≤ 2
 unfolding tens
-two_digits n h = short 1 n (omega arith) (omega arith)
+two_digits n h = few_digits 1 n (omega arith) (omega arith)
 
 pub four_digits : (n : ℕ) → n ≤ 9999 → length (numeral n) ≤ 4
 unfolding tens
-four_digits n h = short 3 n (omega arith) (omega arith)
+four_digits n h = few_digits 3 n (omega arith) (omega arith)
 
 pub five_digits : (n : ℕ) → n ≤ 99999 → length (numeral n) ≤ 5
 unfolding tens
-five_digits n h = short 4 n (omega arith) (omega arith)
+five_digits n h = few_digits 4 n (omega arith) (omega arith)
 
 pub seven_digits : (n : ℕ) → n ≤ 9999999 → length (numeral n) ≤ 7
 unfolding tens
-seven_digits n h = short 6 n (omega arith) (omega arith)
+seven_digits n h = few_digits 6 n (omega arith) (omega arith)
 
 -- ---- reading, digit by digit
 pub numeral_digits : (n : ℕ) → 1 ≤ n → n ≤ 9999 → YearDigits (numeral n)
@@ -138,8 +141,11 @@ numeral_digits n low high =
     let f = ltb-true 48 (get_or (numeral n) 0 0) (all_made n low high 1) in
     record { some = (numeral_length n).0; few = four_digits n high; digits = within_at 48 57 (numeral n) (all_digits n low high); first = λ e. omega arith }
 
-pub no_numeral : (high : ℕ) (s : List ℕ) → (YearDigits s → ⊥) → Told (numerals high) (λ n. n) 0 s 0
+pub no_numeral : (high : ℕ) (s : List ℕ) → (YearDigits s → ⊥) → Told (numerals high) Some None s None
 no_numeral high s bad = unproduced (λ n g e. bad (subst YearDigits e (numeral_digits n g.0 (omega (arith, g))))) refl
+
+pub first_digit : {s : List ℕ} → YearDigits s → (digit 1 ≤ get_or s 0 0) × (get_or s 0 0 ≤ digit 9)
+first_digit d = (omega (arith, d.first, d.digits 0 d.some), omega (arith, d.digits 0 d.some))
 
 -- the first i of at most four bytes s are the numeral of n
 pub record Sofar (s : List ℕ) (n i : ℕ) : Type 0 where
@@ -149,96 +155,81 @@ pub record Sofar (s : List ℕ) (n i : ℕ) : Type 0 where
   pub high : n ≤ 9999
   pub is : numeral n ≡ take i s
 
-pub begun : (s : List ℕ) → 1 ≤ length s → length s ≤ 4 → 49 ≤ get_or s 0 0 → get_or s 0 0 ≤ 57 → Sofar s (get_or s 0 0 - 48) 1
-begun [] some few low high = absurd (omega arith)
-begun (x ∷ s) some few low high =
-    let e : digit (x - 48) ≡ x = omega arith in
-    record { few = few; inside = some; low = omega arith; high = omega arith; is = one_digit (x - 48) (omega arith) ∙ rw e }
+-- a byte is a digit from the one given on, and that is its value
+abbrev pub Valued : ℕ → ℕ → ℕ → Type 0
+Valued least x d = ((digit least ≤ x) × (x ≤ digit 9)) × (d ≡ x - digit 0)
+
+pub begun : (s : List ℕ) {d : ℕ} → 1 ≤ length s → length s ≤ 4 → Valued 1 (get_or s 0 0) d → Sofar s d 1
+begun [] some few v = absurd (omega arith)
+begun (x ∷ s) {d} some few v =
+    let e : digit d ≡ x = omega arith in
+    record { few = few; inside = some; low = omega arith; high = omega arith; is = one_digit d (omega arith) ∙ rw e }
 
 module _ {s : List ℕ} {n i : ℕ} (p : Sofar s n i) where
-  pub longer : i < length s → 48 ≤ get_or s i 0 → get_or s i 0 ≤ 57 → Sofar s (10 * n + (get_or s i 0 - 48)) (i + 1)
-  longer h l g =
+  pub longer : {d : ℕ} → i < length s → Valued 0 (get_or s i 0) d → Sofar s (10 * n + d) (i + 1)
+  longer {d} h v =
       let small = three_digits n p.low p.high (rw (p.is, length-take-le i s p.inside) (omega (arith, p.few))) in
-      let b : digit (get_or s i 0 - 48) ≡ get_or s i 0 = omega arith in
+      let e : digit d ≡ get_or s i 0 = omega arith in
       record {
         few = p.few;
         inside = omega arith;
         low = omega (arith, p.low);
         high = omega arith;
-        is = grown n (get_or s i 0 - 48) p.low small (omega arith) ∙ rw (b, p.is, add-one, take-suc s i 0 h);
+        is = grown n d p.low small (omega arith) ∙ rw (e, p.is, add-one, take-suc s i 0 h);
       }
 
   module _ (all : length s ≤ i) where
     pub whole : numeral n ≡ s
     whole = p.is ∙ take_all i s all
 
-    pub read : (top : ℕ) → n ≤ top → Told (numerals top) (λ k. k) 0 s n
+    pub read : (top : ℕ) → n ≤ top → Told (numerals top) Some None s (Some n)
     read top h = produced n (p.low, omega (arith, p.high)) whole refl
 
-    pub above : (top : ℕ) → top < n → Told (numerals top) (λ k. k) 0 s 0
+    above : (top : ℕ) → top < n → Told (numerals top) Some None s None
     above top h =
         unproduced (λ k g f. let same = one_number k n g.0 (omega (arith, g)) p.low p.high (f ∙ sym whole) in omega (arith, g)) refl
 
--- ---- one or two digits
-pub too_many : (high : ℕ) (s : List ℕ) → 2 < length s → Told (numerals (min high 99)) (λ k. k) 0 s 0
+    -- the number is compared with a bound
+    pub up_to : (high top : ℕ) → top ≤ high → (n ≤ high → n ≤ top) → Told (numerals top) Some None s (then_some (leb n high) n)
+    up_to high top below fits =
+        elim (dec_lt high n) [
+          | yes h ↦ rw (lt-leb n high h) (above top (omega arith))
+          | no h ↦ rw (le-leb n high (omega arith)) (read top (fits (omega arith)))
+        ]
+
+    pub short : n ≤ 99 → (high : ℕ) → Told (numerals (min high 99)) Some None s (then_some (leb n high) n)
+    short h high = up_to high (min high 99) (omega arith) (λ k. omega arith)
+
+pub too_many : (high : ℕ) (s : List ℕ) → 2 < length s → Told (numerals (min high 99)) Some None s None
 too_many high s h = unproduced (λ n g e. omega (arith, two_digits n (omega (arith, g)), ap length e)) refl
 
-pub no_last : (high : ℕ) (s : List ℕ) → ((48 ≤ get_or s (length s - 1) 0) × (get_or s (length s - 1) 0 ≤ 57) → ⊥) → Told (numerals high) (λ k. k) 0 s 0
-no_last high s bad = no_numeral high s (λ l. bad (l.digits (length s - 1) (omega (arith, l.some))))
-
--- all of s is the numeral of n, which is below 100
-pub record Short (s : List ℕ) (n : ℕ) : Type 0 where
-  pub sofar : Sofar s n (length s)
-  pub small : n ≤ 99
-
--- the first of two digits counts ten times, and the first of one is the last
-pub short_read : (s : List ℕ) {t : ℕ} → (1 ≤ length s) × (length s ≤ 2) → (49 ≤ get_or s 0 0) × (get_or s 0 0 ≤ 57)
-    → (48 ≤ get_or s (length s - 1) 0) × (get_or s (length s - 1) 0 ≤ 57)
-    → ((length s ≡ 2) × (t ≡ get_or s 0 0 - 48)) ⊎ ((length s ≡ 2 → ⊥) × (t ≡ 0)) → Short s (10 * t + (get_or s (length s - 1) 0 - 48))
-short_read [] n f l t = absurd (omega (arith, n))
-short_read (x ∷ []) n f l (inl t) = absurd (omega (arith, t))
-short_read (x ∷ []) n f l (inr t) =
-    let e : x - 48 ≡ 10 * 0 + (x - 48) = omega arith in
-    let one = begun (x ∷ []) n.0 (omega arith) f.0 f.1 in
-    rw t.1 (record { sofar = subst (λ k. Sofar (x ∷ []) k 1) e one; small = omega (arith, f) })
-short_read (x ∷ y ∷ []) n f l (inl t) =
-    let one = begun (x ∷ y ∷ []) n.0 (omega arith) f.0 f.1 in
-    rw t.1 (record { sofar = longer one (omega arith) l.0 l.1; small = omega (arith, f, l) })
-short_read (x ∷ y ∷ []) n f l (inr t) = absurd (t.0 refl)
-short_read (x ∷ y ∷ z ∷ s) n f l t = absurd (omega (arith, n))
+-- what a slice from the second byte on holds
+pub behind_first : (s : List ℕ) (i : ℕ) → get_or (take (length s - 1) (drop 1 s)) i 0 ≡ get_or s (i + 1) 0
+behind_first s i = rw (rest 1 s, get_or_after_one) (ap (λ (k : ℕ). get_or s k 0) (omega arith))
 
 -- four digits, the first not 0
-abbrev pub FourDigits : ℕ → ℕ → ℕ → ℕ → Type 0
-FourDigits w x y z = ((49 ≤ w) × (w ≤ 57)) × ((48 ≤ x) × (x ≤ 57)) × ((48 ≤ y) × (y ≤ 57)) × ((48 ≤ z) × (z ≤ 57))
+abbrev Digit : ℕ → ℕ → Type 0
+Digit least x = (digit least ≤ x) × (x ≤ digit 9)
 
 module _ (w x y z : ℕ) where
-  abbrev bytes : List ℕ
-  bytes = w ∷ x ∷ y ∷ z ∷ []
-
-  pub no_four : (FourDigits w x y z → ⊥) → Told (numerals 9999) (λ k. k) 0 bytes 0
+  pub no_four : (Digit 1 w × Digit 0 x × Digit 0 y × Digit 0 z → ⊥) → Told (numerals 9999) Some None (w ∷ x ∷ y ∷ z ∷ []) None
   no_four bad =
-      no_numeral 9999 bytes (λ l.
-      let at = l.digits in
-      bad (omega (arith, l.first, at 0 (omega arith), at 1 (omega arith), at 2 (omega arith), at 3 (omega arith))))
+      no_numeral 9999 (w ∷ x ∷ y ∷ z ∷ []) (λ l. bad (first_digit l, l.digits 1 (omega arith), l.digits 2 (omega arith), l.digits 3 (omega arith)))
 
-  pub four_read : (n : ℕ) → FourDigits w x y z → n ≡ 1000 * (w - 48) + 100 * (x - 48) + 10 * (y - 48) + (z - 48)
-      → Told (numerals 9999) (λ k. k) 0 bytes n
-  four_read n d e =
-      let two = longer (begun bytes (omega arith) (omega arith) d.0.0 d.0.1) (omega arith) d.1.0 d.1.1 in
-      let all = longer (longer two (omega arith) d.2.0 d.2.1) (omega arith) d.3.0 d.3.1 in
-      let same : n ≡ 10 * (10 * (10 * (w - 48) + (x - 48)) + (y - 48)) + (z - 48) = omega arith in
+  pub four_read : {i j k l : ℕ} → Valued 1 w i → Valued 0 x j → Valued 0 y k → Valued 0 z l
+      → Told (numerals 9999) Some None (w ∷ x ∷ y ∷ z ∷ []) (Some (1000 * i + 100 * j + 10 * k + l))
+  four_read {i} {j} {k} {l} a b c d =
+      let two = longer (begun (w ∷ x ∷ y ∷ z ∷ []) (omega arith) (omega arith) a) (omega arith) b in
+      let all = longer (longer two (omega arith) c) (omega arith) d in
+      let same : 1000 * i + 100 * j + 10 * k + l ≡ 10 * (10 * (10 * i + j) + k) + l = omega arith in
       rw same (read all (omega arith) 9999 all.high)
 
 -- the first suc i of such digits are a numeral
 pub digits_read : {s : List ℕ} → YearDigits s → (i : ℕ) → i < length s → (n : ℕ) × Sofar s n (i + 1)
-digits_read {s} d zero h =
-    let x = d.digits 0 h in
-    let f = d.first in
-    (get_or s 0 0 - 48, begun s h d.few (omega arith) x.1)
+digits_read {s} d zero h = (get_or s 0 0 - 48, begun s h d.few (first_digit d, refl))
 digits_read {s} d (suc i) h =
     let k = digits_read d i (omega arith) in
-    let x = d.digits (suc i) h in
-    (10 * k.0 + (get_or s (suc i) 0 - 48), longer (rw add-one at k.1) h x.0 x.1)
+    (10 * k.0 + (get_or s (suc i) 0 - 48), longer (rw add-one at k.1) h (d.digits (suc i) h, refl))
 
 -- ---- what stands in no numeral
 pub numeral_lacks : (c n : ℕ) → c < 48 → 1 ≤ n → n ≤ 9999 → has c (numeral n) ≡ false

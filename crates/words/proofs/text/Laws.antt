@@ -3,14 +3,16 @@ use mathlib.Core.Bool.{Bool, true, false, ◌&&◌, ◌||◌, or-true, and-eq-tr
 use mathlib.Core.List.{List, [], ◌∷◌, ◌++◌}
 use mathlib.Core.Logic.{◌⊎◌, inl, inr}
 use mathlib.Core.Path.{◌≡◌, refl, sym, ◌∙◌, ap, ap₂}
-use Prim.Native.Nat.{ℕ, zero, suc, ◌-◌, ◌<◌, ◌≤◌}
+use Prim.Native.Nat.{ℕ, zero, suc, ◌+◌, ◌-◌, ◌<◌, ◌≤◌}
 use native.Mathlib.Decide.{dec_lt}
 use native.Mathlib.Omega.{arith}
 use lib.Dec.{eqb}
 use lib.ListN.{length, take, drop, get_or, length-drop}
-use lib.Seq.{drop-cons, drop-length, split_at, take_all}
+use lib.Seq.{split_at, take_all}
 use borrow.Author.Tests.{eq-eqb, ne_eqb}
 use Rattle.calendar.proofs.range.Laws.{range}
+use Rattle.std.proofs.lemmas.List.{get_or-drop}
+use Rattle.std.specs.Prelude.{Option, Some, None, MatchOption}
 use Rattle.calendar.specs.Range.{between}
 use Rattle.words.specs.Text.{has, BehindLast}
 
@@ -71,17 +73,27 @@ one_cut c (x ∷ a) (y ∷ b) u v hu hv e =
     let r = one_cut c a b u v hu hv f in
     (ap₂ (λ (z : ℕ) (l : List ℕ). z ∷ l) h r.0, r.1)
 
-pub has_none : (c : ℕ) (s : List ℕ) → has c (drop (length s) s) ≡ false
+lacks : (c : ℕ) (s : List ℕ) → ((k : ℕ) → k < length s → get_or s k 0 ≡ c → ⊥) → has c s ≡ false
 unfolding has
-has_none c s = rw (drop-length s)
+lacks c [] none = refl
+lacks c (x ∷ s) none = rw (ne_eqb x c (none 0 (omega arith))) (lacks c s (λ k h. none (suc k) (omega arith)))
 
--- one step back over a byte that is not c, and where the walk back stops
-pub has_back : (c : ℕ) (s : List ℕ) (i : ℕ) → 0 < i → i ≤ length s → (get_or s (i - 1) 0 ≡ c → ⊥)
-    → has c (drop i s) ≡ false → has c (drop (i - 1) s) ≡ false
-unfolding has
-has_back c s i low high n h =
-    let e : suc (i - 1) ≡ i = omega arith in
-    rw (rw e at (drop-cons s (i - 1) 0 (omega arith)), ne_eqb (get_or s (i - 1) 0) c n) h
+-- no byte of s from the place i on is c
+abbrev pub NoneFrom : ℕ → List ℕ → ℕ → Type 0
+NoneFrom c s i = (k : ℕ) → i ≤ k → k < length s → get_or s k 0 ≡ c → ⊥
+
+lacks_from : (c : ℕ) (s : List ℕ) (i : ℕ) → NoneFrom c s i → has c (drop i s) ≡ false
+lacks_from c s i none =
+    let l = length-drop i s in
+    lacks c (drop i s) (λ k h e. none (i + k) (omega arith) (omega arith) (sym (get_or-drop i s k 0) ∙ e))
+
+-- where a search from the end has found r, and n is the place behind it or the start
+pub behind : (c : ℕ) (s : List ℕ) (r : Option ℕ) {n : ℕ} → MatchOption r (n ≡ 0) (λ i. n ≡ i + 1)
+    → MatchOption r (NoneFrom c s 0) (λ i. (i < length s) × (get_or s i 0 ≡ c) × NoneFrom c s (i + 1)) → BehindLast c s n
+behind c s None z none = rw z (record { inside = omega arith; behind = lacks_from c s 0 none; last = λ low. absurd (omega arith) })
+behind c s (Some i) {n} next found =
+    let at : i ≡ n - 1 = omega arith in
+    record { inside = omega (arith, found.0); behind = rw next (lacks_from c s (i + 1) found.2); last = λ low. rw at at found.1 }
 
 module _ (c : ℕ) (s : List ℕ) (i : ℕ) (b : BehindLast c s i) where
   -- the bytes around the last c

@@ -12,12 +12,13 @@ use Rattle.words.proofs.Slots.{Bytes, Others, no_slot, worded, sized, letters, o
 use Rattle.words.proofs.Tests.{every}
 use Rattle.words.proofs.Told.{OneReading}
 use Rattle.words.proofs.text.Laws.{within, within_at, within_lacks}
+use Rattle.std.specs.Bool.{then_some}
+use Rattle.std.specs.Prelude.{Some, None}
 use Rattle.calendar.specs.Range.{between}
 use Rattle.words.specs.Steps.{outer_of, inner_of, held, outer_in, inner_in, feast_slot}
 use Rattle.words.specs.Text.{space, point, has}
 use Rattle.words.specs.Told.{Told, produced, unproduced}
 use Rattle.words.specs.Word.{feast_word, feast_words}
-use Rattle.std.specs.Prelude.{Ok}
 
 all_worded : T (each (λ k. every (worded feast_slot feast_word 48 97 (suc k))) 48)
 unfolding worded held within between
@@ -52,22 +53,23 @@ feast_lacks_space f = feast_lacks space f (omega arith)
 pub feast_lacks_point : (f : ℕ) → 1 ≤ f → f ≤ 48 → has point (feast_word f) ≡ false
 feast_lacks_point f = feast_lacks point f (omega arith)
 
-pub no_length : (s : List ℕ) → ((4 ≤ length s) × (length s ≤ 12) → ⊥) → Told feast_words (λ n. n) 0 s 0
+pub no_length : (s : List ℕ) → ((4 ≤ length s) × (length s ≤ 12) → ⊥) → Told feast_words Some None s None
 no_length s h = unproduced (λ n g e. h (rw e at (feast_length n g.0 g.1))) refl
 
-module _ (s : List ℕ) (bytes : Ok s) (long : (4 ≤ length s) × (length s ≤ 12)) {o m : ℕ}
+module _ (s : List ℕ) (bytes : Bytes s) (long : (4 ≤ length s) × (length s ≤ 12)) {o m : ℕ}
     (ho : o ≡ outer_in feast_slot feast_word 48 (feast_slot s)) (hm : m ≡ inner_in feast_slot feast_word 48 (feast_slot s))
     {r : Bool} (test : r ≡ (eqb (outer_of s (length s)) o && eqb (inner_of s (length s)) (m % 1099511627776))) where
-  pub other_word : r ≡ false → Told feast_words (λ n. n) 0 s 0
-  other_word p =
-      unproduced (λ n g e.
-      not_it feast_slot feast_word 48 97 all_worded bytes (feast_slot s) (long.0, long.1, omega arith) ho hm test p n g
-      (ap feast_slot (sym e)) (ap length (sym e)) [] (append-nil (feast_word n) ∙ e)) refl
-
-  pub this_word : r ≡ true → Told feast_words (λ n. n) 0 s (m / 1099511627776)
-  this_word p =
-      let k = is_it feast_slot feast_word 48 97 all_worded bytes (feast_slot s) (long.0, long.1, omega arith) ho hm test p in
-      produced (m / 1099511627776) k.0 (rw (drop-length s, append-nil) at k.2) refl
+  pub told_word : Told feast_words Some None s (then_some r (m / 1099511627776))
+  told_word = go r refl
+    where
+      go : (b : Bool) → r ≡ b → Told feast_words Some None s (then_some b (m / 1099511627776))
+      go true p =
+          let k = is_it feast_slot feast_word 48 97 all_worded bytes (feast_slot s) (long.0, long.1, omega arith) ho hm test p in
+          produced (m / 1099511627776) k.0 (rw (drop-length s, append-nil) at k.2) refl
+      go false p =
+          unproduced (λ n g e.
+          not_it feast_slot feast_word 48 97 all_worded bytes (feast_slot s) (long.0, long.1, omega arith) ho hm test p n g
+          (ap feast_slot (sym e)) (ap length (sym e)) [] (append-nil (feast_word n) ∙ e)) refl
 
 pub one_feast : OneReading feast_words
 one_feast n m g h e = one_slot feast_slot feast_word 48 97 all_worded n m g h (ap feast_slot e)

@@ -9,30 +9,32 @@ use native.Mathlib.Omega.{arith}
 use lib.Dec.{T, eqb, ltb}
 use lib.ListN.{length, drop, get_or, length-append, get_or-append}
 use lib.Seq.{drop-append_seam}
-use borrow.Author.Tests.{eqb-true, eqb-false, ne_eqb, ltb-false, lt-ltb, le-ltb}
+use borrow.Author.Tests.{eqb-true, eqb-false, lt-ltb, le-ltb}
 use Rattle.calendar.proofs.Each.{each}
 use Rattle.words.proofs.Slots.{Bytes, within_bytes, small_four, four_append, same_word, both_fours}
 use Rattle.words.proofs.Slots.{Others, no_slot, worded, holds, holds_it, its_bytes, one_slot}
 use Rattle.words.proofs.Tests.{every, Each, each_at, by_test}
-use Rattle.words.proofs.Told.{OneReading, one_told}
+use Rattle.words.proofs.Told.{OneReading}
 use Rattle.words.proofs.text.Laws.{within}
+use Rattle.std.specs.Prelude.{Option, Some, None}
 use Rattle.calendar.specs.Range.{between}
 use Rattle.words.specs.Steps.{four, outer_of, held, outer_for, wrapper_slot, bare_number, bare_words, middle_for, wrapper_outer, wrapper_middle}
-use Rattle.words.specs.Steps.{Wordless, MayLead, count_by, eight_at, eight_of, more_by, LeadTold}
+use Rattle.words.specs.Steps.{wrapper_of, Wordless, MayLead, count_by, eight_at, eight_of, more_by, LeadTold}
 use Rattle.words.specs.Text.{bytes, space, has}
-use Rattle.words.specs.Told.{produced, unproduced}
-use Rattle.words.specs.Wrapper.{weekday_word, start_words, wrapper_words, GoodWrapper, leadings, wrapper_of, lead_of, TellsLead}
+use Rattle.words.specs.Told.{Told, produced, unproduced}
+use Rattle.words.specs.Wrapper.{weekday_word, start_words, wrapper_words, GoodWrapper, leadings, lead}
 use Rattle.calendar.specs.declared.weekday.Side.TheVariants.{After, Before}
 use Rattle.calendar.specs.declared.weekday.Start.TheVariants.{Counted, Uncounted}
-use Rattle.words.specs.declared.wrapper.Found.{Found}
-use Rattle.words.specs.declared.wrapper.Lead.TheVariants.{Wrapped, Plain}
 use Rattle.words.specs.declared.wrapper.Lead.{Lead}
 use Rattle.words.specs.declared.wrapper.Wrapper.TheVariants.{Eve, Morrow, Octave, First}
 use Rattle.words.specs.declared.wrapper.Wrapper.{Wrapper}
-use Rattle.std.specs.Prelude.{Ok}
+
+-- r is what a phrase is told to begin with
+abbrev pub Leads : List ℕ → Option Lead → Type 0
+Leads s r = Told leadings (λ x. Some (lead x)) None s r
 
 -- ---- numbers of wrappers
-abbrev pub number_of : Wrapper → ℕ
+abbrev number_of : Wrapper → ℕ
 number_of Eve = 0
 number_of Morrow = 8
 number_of Octave = 32
@@ -56,16 +58,6 @@ by_wrapper P p (First Counted Before d) g = each_at (λ d. P (First Counted Befo
 
 pub numbered : (w : Wrapper) → GoodWrapper w → wrapper_of (number_of w) ≡ w
 numbered = by_wrapper (λ w. wrapper_of (number_of w) ≡ w) (search depth 20)
-
-pub its_number : (n : ℕ) → number_of (wrapper_of n) ≡ n
-its_number n =
-    let is : Wrapper → Type 0 = λ w. number_of w ≡ n in
-    by_test is (eqb n 0) (λ e. sym (eqb-true n 0 e)) (λ _.
-    by_test is (eqb n 8) (λ e. sym (eqb-true n 8 e)) (λ _.
-    by_test is (eqb n 32) (λ e. sym (eqb-true n 32 e)) (λ _.
-    by_test is (ltb n 8) (λ _. refl) (λ a.
-    by_test is (ltb n 16) (λ _. omega (arith, ltb-false n 8 a)) (λ b.
-    by_test is (ltb n 24) (λ _. omega (arith, ltb-false n 16 b)) (λ c. omega (arith, ltb-false n 24 c)))))))
 
 -- ---- the words without "on or" by their slot
 pub all_worded : T (each (λ k. every (worded wrapper_slot bare_words 17 32 (suc k))) 17)
@@ -119,7 +111,7 @@ facts =
     by_wrapper (λ w. Facts w (more_of w) (index_of w))
     (search arith, search arith, search arith, search arith depth 20, search arith depth 20, search arith depth 20, search arith depth 20)
 
-small_bytes : (w : Wrapper) → GoodWrapper w → Ok (wrapper_words w)
+small_bytes : (w : Wrapper) → GoodWrapper w → Bytes (wrapper_words w)
 unfolding within between
 small_bytes w g = within_bytes 32 (wrapper_words w) (by_wrapper (λ w. within 32 122 (wrapper_words w) ≡ true) (search depth 20) w g)
 
@@ -223,25 +215,25 @@ pub words_some : (w : Wrapper) → 1 ≤ length (wrapper_words w)
 words_some w = let l = ap length (spaced w).1 ∙ length-append (spaced w).0 (space ∷ []) in omega arith
 
 -- ---- what a phrase begins with
-pub plain : {s : List ℕ} → Wordless s → TellsLead s (record { number = 0; length = 0 })
-plain none = record { told = unproduced (λ x good e. none x.wrapper good x.rest e) refl; none = λ z. refl }
+pub plain : {s : List ℕ} → Wordless s → Leads s None
+plain none = unproduced (λ x good e. none x.wrapper good x.rest e) refl
 
-pub no_space : (s : List ℕ) {more l : ℕ} → LeadTold s more l → length s < l → TellsLead s (record { number = 0; length = 0 })
+pub no_space : (s : List ℕ) {more l : ℕ} → LeadTold s more l → length s < l → Leads s None
 no_space s h short = plain (λ w g t e. omega (arith, reads w g t e h, there w g t e))
 
 -- ---- where the fours of s agree with what a slot holds
 -- an index with the bytes more that are told is that of a good wrapper, by its number
-abbrev Ok : ℕ → ℕ → Type 0
-Ok more x = let w = wrapper_of (bare_number x + if_on_or more 16) in GoodWrapper w × (more_of w ≡ more) × (index_of w ≡ x)
+abbrev Known : ℕ → ℕ → Type 0
+Known more x = let w = wrapper_of (bare_number x + if_on_or more 16) in GoodWrapper w × (more_of w ≡ more) × (index_of w ≡ x)
 
-known : {more x : ℕ} → Ok more x → (w : Wrapper) × (GoodWrapper w × Facts w more x)
+known : {more x : ℕ} → Known more x → (w : Wrapper) × (GoodWrapper w × Facts w more x)
 known {more} {x} k = let w = wrapper_of (bare_number x + if_on_or more 16) in (w, (k.0, rw (k.1, k.2) at (facts w k.0)))
 
 -- it is so where the fifth byte of the index's words is the last of the eight that tell "on or after" or "on or before"
 abbrev Lettered : ℕ → ℕ → Type 0
-Lettered more x = four (bare_words x) 3 / 256 % 256 ≡ eight_for more / 72057594037927936 → Ok more x
+Lettered more x = four (bare_words x) 3 / 256 % 256 ≡ eight_for more / 72057594037927936 → Known more x
 
-all_known : Each (Ok 0) 17 × Each (Lettered 6) 17 × Each (Lettered 7) 17
+all_known : Each (Known 0) 17 × Each (Lettered 6) 17 × Each (Lettered 7) 17
 unfolding four
 all_known = (search arith depth 30, search arith depth 40, search arith depth 40)
 
@@ -249,9 +241,9 @@ all_known = (search arith depth 30, search arith depth 40, search arith depth 40
 abbrev Standing : List ℕ → (l x e more : ℕ) → Type 0
 Standing s l x e more =
     eight_of s ≡ e → l ≡ count_by (four s 3) + more → four s (3 + if_on_or more 6) ≡ four (bare_words x) 3
-    → TellsLead s (record { number = bare_number x + if_on_or more 16; length = l })
+    → Leads s (Some (record { wrapper = wrapper_of (bare_number x + if_on_or more 16); length = l }))
 
-module _ (s : List ℕ) (bs : Ok s) {l x : ℕ} (room : l ≤ length s) (good : (1 ≤ x) × (x ≤ 17)) (outer : outer_of s l ≡ outer_for bare_words x) where
+module _ (s : List ℕ) (bs : Bytes s) {l x : ℕ} (room : l ≤ length s) (good : (1 ≤ x) × (x ≤ 17)) (outer : outer_of s l ≡ outer_for bare_words x) where
   stands : {more e : ℕ} (w : Wrapper) → GoodWrapper w → Facts w more x → four s 3 ≡ four (wrapper_words w) 3
       → four s (3 + (if_on_or more 6 - 2)) ≡ four (wrapper_words w) (3 + (if_on_or more 6 - 2)) → Standing s l x e more
   stands {more} w g f low high _ el middle =
@@ -260,9 +252,9 @@ module _ (s : List ℕ) (bs : Ok s) {l x : ℕ} (room : l ≤ length s) (good : 
       let ends = both_fours s v bs (small_bytes w g) 0 (l - 4) 0 (length v - 4) (outer ∙ sym f.outer) in
       let all = same_word s v bs (small_bytes w g) (0 ∷ 3 ∷ (3 + (if_on_or more 6 - 2)) ∷ (3 + if_on_or more 6) ∷ (length v - 4) ∷ [])
       (ends.0, (low, (high, (middle ∙ sym f.middle, (rw fits at ends.1, tt))))) (omega (arith, f.long, few more 6)) (omega arith) in
-      let lead = ap₂ Wrapped (ap wrapper_of (sym f.number) ∙ numbered w g) fits in
-      let some : l ≡ 0 → ⊥ = omega (arith, words_some w) in
-      record { told = rw (ne_eqb l 0 some) (produced (record { wrapper = w; rest = drop (length v) s }) g all lead); none = λ z. absurd (some z) }
+      let number = ap wrapper_of (sym f.number) ∙ numbered w g in
+      produced (record { wrapper = w; rest = drop (length v) s }) g all
+      (ap₂ (λ (w : Wrapper) (n : ℕ). Some (record { wrapper = w; length = n })) number fits)
 
   letter : eight_at s 3 / 72057594037927936 ≡ four s 9 / 256 % 256
   unfolding four
@@ -282,7 +274,7 @@ module _ (s : List ℕ) (bs : Ok s) {l x : ℕ} (room : l ≤ length s) (good : 
   standing : (e : ℕ) → Standing s l x e (more_by e)
   unfolding four
   standing =
-      let k = known (each_at (Ok 0) 17 all_known.0 x good) in
+      let k = known (each_at (Known 0) 17 all_known.0 x good) in
       by_on_or (Standing s l x) (counted refl (omega arith) all_known.1) (counted refl (omega arith) all_known.2)
       (λ e q el middle. let same = middle ∙ sym k.1.1.middle in stands k.0 k.1.0 k.1.1 same same q el middle)
 
@@ -290,7 +282,7 @@ module _ (s : List ℕ) (bs : Ok s) {l x : ℕ} (room : l ≤ length s) (good : 
 module _ (s : List ℕ) {more l : ℕ} (h : LeadTold s more l) {skip i o m : ℕ} (hs : skip ≡ if_on_or more 6) (hi : i ≡ slot_by skip s)
     (ho : o ≡ wrapper_outer i) (hm : m ≡ wrapper_middle i) where
   pub not_these : (four s 0 + 4294967296 * four s (l - 4) ≡ o → m % 4294967296 ≡ four s (3 + skip) → ⊥)
-      → TellsLead s (record { number = 0; length = 0 })
+      → Leads s None
   not_these fails =
       plain (λ w g t e.
       let r = reads w g t e h in
@@ -316,8 +308,8 @@ module _ (s : List ℕ) {more l : ℕ} (h : LeadTold s more l) {skip i o m : ℕ
       let none : i ≡ 0 = hi ∙ omega (arith, rw next at em) in
       omega (arith, rw none at (z (λ k. k)))
 
-  pub these_words : Ok s → l ≤ length s → four s 0 + 4294967296 * four s (l - 4) ≡ o → m % 4294967296 ≡ four s (3 + skip)
-      → {c : ℕ} → c ≡ if_on_or more 16 → TellsLead s (record { number = m / 4294967296 + c; length = l })
+  pub these_words : Bytes s → l ≤ length s → four s 0 + 4294967296 * four s (l - 4) ≡ o → m % 4294967296 ≡ four s (3 + skip)
+      → {c : ℕ} → c ≡ if_on_or more 16 → Leads s (Some (record { wrapper = wrapper_of (m / 4294967296 + c); length = l }))
   these_words bs room eo em hc =
       elim (holds (λ k. wrapper_slot (bare_words k)) 17 i) [
         | inl k ↦
@@ -348,17 +340,3 @@ pub one_leading : OneReading leadings
 one_leading x y g h e =
     let same = one_wrapper x.wrapper y.wrapper x.rest y.rest g h e in
     ap₂ (λ (w : Wrapper) (t : List ℕ). record { wrapper = w; rest = t }) same.0 same.1
-
--- ---- the numbers of a lead
-found_of : Lead → Found
-found_of (Wrapped w n) = record { number = number_of w; length = n }
-found_of Plain = record { number = 0; length = 0 }
-
-its_found : {s : List ℕ} (f : Found) → TellsLead s f → f ≡ found_of (lead_of f)
-unfolding found_of
-its_found f h =
-    by_test (λ r. f ≡ found_of r) (eqb f.length 0) (λ e i. record { number = h.none (eqb-true _ 0 e) i; length = eqb-true f.length 0 e i })
-    (λ _ i. record { number = sym (its_number f.number) i; length = f.length })
-
-pub one_found : (s : List ℕ) (r q : Found) → TellsLead s r → TellsLead s q → r ≡ q
-one_found s r q h k = its_found r h ∙ ap found_of (one_told one_leading (lead_of r) (lead_of q) h.told k.told) ∙ sym (its_found q k)

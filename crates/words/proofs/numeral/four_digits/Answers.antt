@@ -1,21 +1,18 @@
-use native.Mathlib.Omega.{arith}
 use Rattle.words.proofs.numeral.Laws.{no_four, four_read}
 use Rattle.words.proofs.numeral.four_digits.Goals as goal
 
-pub returns-then-thousands-gt9 : goal.returns-then-thousands-gt9
-returns-then-thousands-gt9 c = no_four _ _ _ _ (λ d. omega arith)
+pub returns-in_err-first_digit : goal.returns-in_err-first_digit
+returns-in_err-first_digit c = rw c.from_residual.ensures (no_four _ _ _ _ (λ d. c.in_err-first_digit.ensures d.0))
 
-pub returns-then-thousands-eq0 : goal.returns-then-thousands-eq0
-returns-then-thousands-eq0 c = no_four _ _ _ _ (λ d. omega arith)
+pub returns-in_err-digit_value : goal.returns-in_err-digit_value
+returns-in_err-digit_value c = rw c.from_residual-in_err-digit_value.ensures (no_four _ _ _ _ (λ d. c.in_err-digit_value.ensures d.1))
 
-pub returns-then-hundreds-gt9 : goal.returns-then-hundreds-gt9
-returns-then-hundreds-gt9 c = no_four _ _ _ _ (λ d. omega arith)
+pub returns-in_err-digit_value-2 : goal.returns-in_err-digit_value-2
+returns-in_err-digit_value-2 c = rw c.from_residual-in_err-digit_value-2.ensures (no_four _ _ _ _ (λ d. c.in_err-digit_value-2.ensures d.2))
 
-pub returns-then-tens-gt9 : goal.returns-then-tens-gt9
-returns-then-tens-gt9 c = no_four _ _ _ _ (λ d. omega arith)
-
-pub returns-then-ones-gt9 : goal.returns-then-ones-gt9
-returns-then-ones-gt9 c = no_four _ _ _ _ (λ d. omega arith)
+pub returns-in_err-digit_value-3 : goal.returns-in_err-digit_value-3
+returns-in_err-digit_value-3 c = rw c.from_residual-in_err-digit_value-3.ensures (no_four _ _ _ _ (λ d. c.in_err-digit_value-3.ensures d.3))
 
 pub returns : goal.returns
-returns c = four_read _ _ _ _ _ (omega arith) (omega arith)
+returns c =
+    four_read _ _ _ _ c.in_ok-first_digit.ensures c.in_ok-digit_value.ensures c.in_ok-digit_value-2.ensures c.in_ok-digit_value-3.ensures

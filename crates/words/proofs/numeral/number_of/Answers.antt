@@ -1,40 +1,33 @@
+use Prim.Native.Nat.{◌+◌}
 use native.Mathlib.Omega.{arith}
-use Rattle.words.proofs.numeral.Laws.{no_numeral, begun, longer, read, above}
+use Rattle.words.proofs.numeral.Laws.{no_numeral, first_digit, begun, longer, up_to, behind_first}
 use Rattle.words.proofs.numeral.number_of.Goals as goal
 
-pub returns-then-text-eq0 : goal.returns-then-text-eq0
-returns-then-text-eq0 c = no_numeral _ _ (λ l. omega (arith, l.some, c.if-text-eq0.true))
+pub returns-in_default : goal.returns-in_default
+returns-in_default c = no_numeral _ _ (λ l. omega (arith, l.some))
 
-pub returns-then-text-gt4 : goal.returns-then-text-gt4
-returns-then-text-gt4 c = no_numeral _ _ (λ l. omega (arith, l.few, c.if-text-gt4.true))
+pub returns-then-rest-gt3 : goal.returns-then-rest-gt3
+returns-then-rest-gt3 c = no_numeral _ _ (λ l. omega (arith, l.few, c.if-rest-gt3.true))
 
-pub returns-then-first-lt49 : goal.returns-then-first-lt49
-returns-then-first-lt49 c = no_numeral _ _ (λ l. omega (arith, l.first, l.digits 0 l.some, c.if-first-lt49.true))
+pub returns-in_err-first_digit : goal.returns-in_err-first_digit
+returns-in_err-first_digit c = rw c.from_residual.ensures (no_numeral _ _ (λ l. c.in_err-first_digit.ensures (first_digit l)))
 
-pub returns-then-first-gt57 : goal.returns-then-first-gt57
-returns-then-first-gt57 c = no_numeral _ _ (λ l. omega (arith, l.digits 0 l.some, c.if-first-gt57.true))
-
-pub loop-i-init : goal.loop-i-init
-loop-i-init c = begun _ (omega arith) c.if-text-gt4.false c.if-first-lt49.false c.if-first-gt57.false
-
-pub returns-then-byte-lt48 : goal.returns-then-byte-lt48
-returns-then-byte-lt48 c = no_numeral _ _ (λ l. omega (arith, l.digits _ c.loop-i-test.true, c.if-byte-lt48.true))
-
-pub returns-then-byte-gt57 : goal.returns-then-byte-gt57
-returns-then-byte-gt57 c = no_numeral _ _ (λ l. omega (arith, l.digits _ c.loop-i-test.true, c.if-byte-gt57.true))
+pub loop-byte-init : goal.loop-byte-init
+loop-byte-init c = rw c.from-n.ensures (begun _ c.in-len1-up.len_at_least (omega arith) c.in_ok-first_digit.ensures)
 
 pub overflow_mul-n : goal.overflow_mul-n
-overflow_mul-n c = omega (arith, c.loop-i.invariant)
+overflow_mul-n c = omega (arith, c.loop-byte.invariant)
+
+pub returns-in_err-digit_value : goal.returns-in_err-digit_value
+returns-in_err-digit_value c =
+    rw c.from_residual-in_err-digit_value.ensures
+    (no_numeral _ _ (λ l. (rw behind_first at c.in_err-digit_value.ensures) (l.digits (c.loop-byte.byte-index + 1) (omega arith))))
 
 pub overflow_add-n : goal.overflow_add-n
-overflow_add-n c = omega (arith, c.loop-i.invariant)
+overflow_add-n c = omega (arith, c.loop-byte.invariant, c.in_ok-digit_value.ensures)
 
-pub loop-i-preserved : goal.loop-i-preserved
-loop-i-preserved c =
-    longer c.loop-i.invariant c.loop-i-test.true c.if-byte-lt48.false c.if-byte-gt57.false
-
-pub returns-then-n-high : goal.returns-then-n-high
-returns-then-n-high c = above c.loop-i.invariant c.loop-i-test.false _ c.if-n-high.true
+pub loop-byte-preserved : goal.loop-byte-preserved
+loop-byte-preserved c = rw c.from.ensures (longer c.loop-byte.invariant (omega arith) (rw behind_first at c.in_ok-digit_value.ensures))
 
 pub returns : goal.returns
-returns c = read c.loop-i.invariant c.loop-i-test.false _ c.if-n-high.false
+returns c = rw c.then_some.ensures (up_to c.loop-byte.invariant (omega arith) _ _ (omega arith) (λ h. h))

@@ -1,42 +1,35 @@
-use mathlib.Core.Logic.{inl, inr}
-use Prim.Native.Nat.{◌+◌, ◌-◌, ◌*◌}
 use native.Mathlib.Omega.{arith}
-use lib.ListN.{length, get_or}
-use Rattle.words.proofs.numeral.Laws.{no_numeral, too_many, no_last, Short, short_read, read, above}
+use Rattle.words.proofs.numeral.Laws.{no_numeral, too_many, first_digit, begun, longer, short}
 use Rattle.words.proofs.numeral.short_number_of.Goals as goal
-use Rattle.words.proofs.numeral.short_number_of.Goals.{Else-count-gt2, Else-leading-gt57, Joined-count-eq2, else-count-eq2, then-count-eq2}
+use Rattle.words.proofs.numeral.short_number_of.Goals.{in-len1+in_ok-n-in-len1, in-len2+in_ok-first_digit-in-len2+in_ok-n-in-len2}
 
-whole : (c : Joined-count-eq2) → let s = c.args.text.now in
-    Short s (10 * c.if-count-eq2.tens + (get_or s (length s - 1) 0 - 48))
-whole c =
-    let first = c.before.before.before.before in
-    let few = first.before.before.before in
-    short_read _ (omega (arith, few.if-count-eq0.false), few.if-count-gt2.false) (first.if-leading-lt49.false, first.if-leading-gt57.false)
-    (c.if-last-lt48.false, c.if-last-gt57.false) (elim c.if-count-eq2.branch [
-      | then-count-eq2 w ↦ inl (w.if-count-eq2.true, w.tens-is)
-      | else-count-eq2 w ↦ inr (w.if-count-eq2.false, w.tens-is)
-    ])
+pub returns-in_err-n-in-len1 : goal.returns-in_err-n-in-len1
+returns-in_err-n-in-len1 c = rw c.from_residual.ensures (no_numeral _ _ (λ l. c.in_err-n-in-len1.ensures (first_digit l)))
 
-pub returns-then-count-eq0 : goal.returns-then-count-eq0
-returns-then-count-eq0 c = no_numeral _ _ (λ l. omega (arith, l.some, c.if-count-eq0.true))
+pub returns-in_err-first_digit-in-len2 : goal.returns-in_err-first_digit-in-len2
+returns-in_err-first_digit-in-len2 c =
+    rw c.from_residual-in_err-first_digit-in-len2.ensures (no_numeral _ _ (λ l. c.in_err-first_digit-in-len2.ensures (first_digit l)))
 
-pub returns-then-count-gt2 : goal.returns-then-count-gt2
-returns-then-count-gt2 c = too_many _ _ c.if-count-gt2.true
+pub returns-in_err-n-in-len2 : goal.returns-in_err-n-in-len2
+returns-in_err-n-in-len2 c =
+    rw c.from_residual-in_err-n-in-len2.ensures
+    (no_numeral _ _ (λ l. c.in_err-n-in-len2.ensures (l.digits 1 (omega (arith, c.in-len2.len_at_least)))))
 
-pub returns-then-leading-lt49 : goal.returns-then-leading-lt49
-returns-then-leading-lt49 c = no_numeral _ _ (λ l. omega (arith, l.first, l.digits 0 l.some, c.if-leading-lt49.true))
+pub returns-in_default : goal.returns-in_default
+returns-in_default c = no_numeral _ _ (λ l. omega (arith, l.some))
 
-pub returns-then-leading-gt57 : goal.returns-then-leading-gt57
-returns-then-leading-gt57 c = no_numeral _ _ (λ l. omega (arith, l.digits 0 l.some, c.if-leading-gt57.true))
-
-pub returns-then-last-lt48 : goal.returns-then-last-lt48
-returns-then-last-lt48 c = no_last _ _ (λ l. omega (arith, c.if-last-lt48.true))
-
-pub returns-then-last-gt57 : goal.returns-then-last-gt57
-returns-then-last-gt57 c = no_last _ _ (λ l. omega (arith, c.if-last-gt57.true))
-
-pub returns-then-n-high : goal.returns-then-n-high
-returns-then-n-high c = above (whole (goal.at.returns-then-n-high c).Joined-count-eq2).sofar (omega arith) _ (omega (arith, c.if-n-high.true))
+pub returns-in_default-2 : goal.returns-in_default-2
+returns-in_default-2 c = too_many _ _ (omega arith)
 
 pub returns : goal.returns
-returns c = let w = whole (goal.at.returns c).Joined-count-eq2 in read w.sofar (omega arith) _ (omega (arith, w.small, c.if-n-high.false))
+returns c =
+    rw (c.then_some.ensures, c.from-n.ensures)
+    (elim c.if-text-lt2.branch [
+      | in-len1+in_ok-n-in-len1 w ↦
+          let one = begun c.args.text.now w.in-len1.len_at_least (omega (arith, w.in-len1.len_below)) w.in_ok-n-in-len1.ensures in
+          rw w.n-is (short one (omega (arith, w.in-len1.len_below)) (omega (arith, w.in_ok-n-in-len1.ensures)) _)
+      | in-len2+in_ok-first_digit-in-len2+in_ok-n-in-len2 w ↦
+          let one = begun c.args.text.now (omega (arith, w.in-len2.len_at_least)) (omega (arith, w.in-len2.len_below)) w.in_ok-first_digit-in-len2.ensures in
+          let two = longer one (omega (arith, w.in-len2.len_at_least)) w.in_ok-n-in-len2.ensures in
+          rw w.n-is (short two (omega (arith, w.in-len2.len_below)) (omega (arith, w.in_ok-first_digit-in-len2.ensures, w.in_ok-n-in-len2.ensures)) _)
+    ])

@@ -1,9 +1,9 @@
 use mathlib.Core.Path.{◌≡◌, refl, sym, ◌∙◌}
 use Prim.Native.Nat.{ℕ, ◌+◌, ◌-◌, ◌*◌, ◌%◌}
 use native.Mathlib.Omega.{arith}
-use Rattle.words.proofs.wrapper.Laws.{not_these, these_words}
+use Rattle.words.proofs.wrapper.Laws.{Leads, not_these, these_words}
+use Rattle.std.specs.Prelude.{None}
 use Rattle.words.specs.Steps.{four, wrapper_middle}
-use Rattle.words.specs.Wrapper.{TellsLead}
 use Rattle.words.proofs.wrapper.lead_by.Goals as goal
 use Rattle.words.proofs.wrapper.lead_by.Goals.{After-outer_in}
 
@@ -18,23 +18,22 @@ fails : (c : After-outer_in) {m : ℕ}
     → let s = c.args.phrase.now in
     m ≡ wrapper_middle c.slot-slot.result
     → (c.pack8.result ≡ c.outer_in.result → m % 4294967296 ≡ four s (3 + c.if_counted-skip.result) → ⊥)
-    → TellsLead s (record { number = 0; length = 0 })
+    → Leads s None
 fails c hm no_match =
     not_these c.args.phrase.now c.requires.0 c.if_counted-skip.ensures c.slot-slot.ensures c.outer_in.ensures hm
     (λ eo em. no_match (ends c ∙ eo) em)
 
 pub returns-then-pack8-outer_in : goal.returns-then-pack8-outer_in
-returns-then-pack8-outer_in c =
-    rw c.no_lead.ensures (fails (goal.at.returns-then-pack8-outer_in c).After-outer_in refl (λ eo em. c.if-pack8-outer_in.true eo))
+returns-then-pack8-outer_in c = fails (goal.at.returns-then-pack8-outer_in c).After-outer_in refl (λ eo em. c.if-pack8-outer_in.true eo)
 
-pub returns-then-told-four_at : goal.returns-then-told-four_at
-returns-then-told-four_at c =
-    rw c.no_lead-then-told-four_at.ensures
-    (fails (goal.at.returns-then-told-four_at c).After-outer_in c.middle_in-told.ensures
-    (λ eo em. c.if-told-four_at.true (em ∙ sym c.four_at-3.ensures)))
+pub returns-then-told-from : goal.returns-then-told-from
+returns-then-told-from c =
+    fails (goal.at.returns-then-told-from c).After-outer_in c.middle_in-told.ensures
+    (λ eo em. c.if-told-from.true (em ∙ sym (c.from.ensures ∙ c.four_at-3.ensures)))
 
 pub returns : goal.returns
 returns c =
-    these_words c.args.phrase.now c.requires.0 c.if_counted-skip.ensures c.slot-slot.ensures c.outer_in.ensures c.middle_in-told.ensures
+    rw c.wrapper_of.ensures
+    (these_words c.args.phrase.now c.requires.0 c.if_counted-skip.ensures c.slot-slot.ensures c.outer_in.ensures c.middle_in-told.ensures
     (λ i. omega (arith, c.type_inv.phrase i)) c.requires.1 (sym (ends (goal.at.returns c).After-outer_in) ∙ c.if-pack8-outer_in.false)
-    (c.if-told-four_at.false ∙ c.four_at-3.ensures) c.if_counted.ensures
+    (c.if-told-from.false ∙ c.from.ensures ∙ c.four_at-3.ensures) c.if_counted.ensures)

@@ -24,4 +24,4 @@ told c =
 
 pub returns-then-phrase-count : goal.returns-then-phrase-count
 returns-then-phrase-count c =
-    rw c.no_lead-then-phrase-count.ensures (no_space c.args.phrase.now (told (goal.at.returns-then-phrase-count c).After-count_by) c.if-phrase-count.true)
+    (no_space c.args.phrase.now (told (goal.at.returns-then-phrase-count c).After-count_by) c.if-phrase-count.true)
