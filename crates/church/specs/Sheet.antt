@@ -1,6 +1,6 @@
 -- Year sheets.
 use Rattle.std.specs.Prelude.{Bool, cond, List, [], ◌∷◌, ◌≡◌, ℕ}
-use Rattle.calendar.specs.Refusal.{refusal_number, checked}
+use Rattle.calendar.specs.Refusal.{checked}
 use Rattle.calendar.specs.Style.{dates_by, easter_by, style_of, in_style}
 use Rattle.calendar.specs.Year.{named, leap}
 use Rattle.church.specs.Easter.{limit, easter, key, easter_tests}

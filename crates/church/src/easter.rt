@@ -51,7 +51,7 @@ pub(crate) fn equinox(calendar: Calendar, year: u64) -> Result<u32, Refusal>
     ensures { result ≡ checked Err (Ok (march calendar year 21)) (easter_tests calendar year) }
 {
     // Else the year is not served, or it is 1582 of G, whose 21 March lies before the span.
-    day_in_calendar(calendar, year, 3, 21).map_err(|_| Refusal::Year)
+    day_in_calendar(calendar, year, 3, 21).or(Err(Refusal::Year))
 }
 
 // The first Sunday after a limit of the year whose 21 March is given.
@@ -67,14 +67,11 @@ pub(crate) fn easter_after(equinox: u32, limit: u64) -> u32
 pub(crate) fn easter_of_year(named: NamedYear) -> Result<u32, Refusal>
     ensures { result ≡ checked Err (Ok (easter (easter_by named.style) named.year)) (easter_tests (dates_by named.style) named.year) }
 {
-    let style = named.style;
-    let year = named.year;
-    let date_calendar = style.dates_by();
-    if !has_easter(date_calendar, year) {
+    if !has_easter(named.style.dates_by(), named.year) {
         return Err(Refusal::Year);
     }
-    let easter_calendar = style.easter_by();
+    let calendar = named.style.easter_by();
     // No style has a year of its dates for which the calendar of its Easter has none.
-    let equinox = equinox(easter_calendar, year)?;
-    Ok(easter_after(equinox, limit_of_year(easter_calendar, year)))
+    let equinox = equinox(calendar, named.year)?;
+    Ok(easter_after(equinox, limit_of_year(calendar, named.year)))
 }

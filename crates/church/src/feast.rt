@@ -74,7 +74,10 @@ fn hung_on_easter(named: NamedYear, feast: u64) -> Result<u32, Refusal>
 {
     let easter = easter_of_year(named)?;
     let i = (feast - 1) as usize;
-    day_within(named.style.dates_by(), easter as u64 + FROM_EASTER[i] as u64 - 63)
+    day_within(
+        named.style.dates_by(),
+        easter as u64 + FROM_EASTER[i] as u64 - 63,
+    )
 }
 
 // The day of a feast that has a date.

@@ -56,5 +56,8 @@ pub fn sheet_in_year(named: NamedYear) -> Result<YearSheet, Refusal>
 pub fn sheet_of_year(style: u64, year: u64) -> Result<YearSheet, Refusal>
     ensures { IsSheetOfYear style year result }
 {
-    sheet_in_year(NamedYear { style: Style::try_from(style)?, year })
+    sheet_in_year(NamedYear {
+        style: Style::try_from(style)?,
+        year,
+    })
 }

@@ -21,17 +21,20 @@ use Rattle.calendar.specs.Span.{first_day, earliest, latest, in_span}
 use Rattle.calendar.specs.Style.{dates_by, easter_by, wholly}
 use Rattle.calendar.specs.Weekday.{weekday, sunday, first_weekday}
 use Rattle.calendar.specs.Year.{leap, first_new_year, new_year, YearOf, served}
-use Rattle.church.specs.Easter.{limit, march, easter, key, reform_year, has_easter}
+use Rattle.church.specs.Easter.{limit, march, easter, key, reform_year, has_easter, easter_tests}
 use Rattle.church.specs.Feast.{+◌, days_from}
 use Rattle.church.specs.Period.{equinox_weekday, key_by}
+use Rattle.calendar.specs.declared.refusal.Refusal.TheVariants.{Year}
 use Rattle.calendar.specs.declared.refusal.Refusal.{Refusal}
+use Rattle.calendar.specs.Refusal.{checked}
 use Rattle.calendar.specs.declared.style.Calendar.TheVariants.{Julian, Gregorian}
 use Rattle.calendar.specs.declared.style.Calendar.{Calendar}
 use Rattle.calendar.specs.declared.style.Style.TheVariants.{J, G, O}
 use Rattle.calendar.specs.declared.style.Style.{Style}
 use Rattle.calendar.specs.declared.weekday.Side.TheVariants.{After}
 use Rattle.calendar.specs.declared.weekday.Start.TheVariants.{Uncounted}
-use Rattle.std.specs.Prelude.{Ok, Err}
+use Rattle.std.specs.Prelude.{Result, Ok, Err}
+use Rattle.std.specs.Result.{result_or}
 
 -- which years have an Easter
 has_easter_lem : (c : Calendar) (y : ℕ) → served c y ≡ true → reform_year c y ≡ false → has_easter c y ≡ true
@@ -129,19 +132,27 @@ not_reform Gregorian y i =
     let r = span_range Gregorian (march Gregorian y 21) i in
     ne_eqb y 1582 (λ e. omega (arith, span_start Gregorian, ap (new_year Gregorian) e))
 
-pub equinox_day : (c : Calendar) (y n : ℕ) → day_in_calendar c y 3 21 ≡ Ok n → (has_easter c y ≡ true) × (march c y 21 ≡ n)
+equinox_day : (c : Calendar) (y n : ℕ) → day_in_calendar c y 3 21 ≡ Ok n → (has_easter c y ≡ true) × (march c y 21 ≡ n)
 unfolding day_in_calendar march
 equinox_day c y n e =
     let p = passed (date_tests c y 3 21) (march c y 21) n e in
     (has_easter_lem c y p.0.0 (not_reform c y p.0.1.1.0), p.1)
 
-pub no_equinox : (c : Calendar) (y : ℕ) (x : Refusal) → day_in_calendar c y 3 21 ≡ Err x → has_easter c y ≡ false
+no_equinox : (c : Calendar) (y : ℕ) (x : Refusal) → day_in_calendar c y 3 21 ≡ Err x → has_easter c y ≡ false
 unfolding day_in_calendar is_date between march
 no_equinox c y x e = go _ refl
   where
     go : (t : Bool) → has_easter c y ≡ t → t ≡ false
     go true h = no_day x (march c y 21) (sym e ∙ rw (easter_served c y h, equinox_in_span c y h))
     go false h = refl
+
+-- so 21 March is told there, and else refused by 4
+pub equinox_closed : (c : Calendar) (y : ℕ) → result_or (day_in_calendar c y 3 21) (Err Year) ≡ checked Err (Ok (march c y 21)) (easter_tests c y)
+equinox_closed c y = go (day_in_calendar c y 3 21) refl
+  where
+    go : (a : Result ℕ Refusal) → day_in_calendar c y 3 21 ≡ a → result_or a (Err Year) ≡ checked Err (Ok (march c y 21)) (easter_tests c y)
+    go (Ok n) e = let d = equinox_day c y n e in rw (d.0, d.1)
+    go (Err x) e = rw (no_equinox c y x e)
 
 equinox_small : (c : Calendar) (y : ℕ) → has_easter c y ≡ true → (earliest ≤ march c y 21) × (march c y 21 ≤ latest)
 equinox_small c y h = span_small c (march c y 21) (equinox_in_span c y h)
