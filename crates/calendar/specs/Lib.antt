@@ -6,6 +6,7 @@ pub mod Style
 pub mod Year
 pub mod Return
 pub mod Span
+pub mod Day
 pub mod Date
 pub mod Weekday
 pub mod Distance

@@ -1,12 +1,14 @@
 // Dates and their days, each way in a fixed number of steps.
-ghost use Rattle.std.specs.Prelude.{◌≡◌, true, false, pred, ◌≤◌, ◌<◌};
+ghost use Rattle.std.specs.Prelude.{◌≡◌, true, false, pred, ◌≤◌, ◌<◌, Ok};
 ghost use Rattle.calendar.specs.Year.{served};
 ghost use Rattle.calendar.specs.Date.{month_length, days_of_months, MonthOf, is_date, day_number, day_in_calendar, day_in_year, day_of_date};
-ghost use Rattle.calendar.specs.Date.{IsDateInCalendar, IsDateInStyle, IsDateOfDay};
+ghost use Rattle.calendar.specs.Date.{IsDateOf, IsDateInStyle, IsDateOfDay};
+ghost use Rattle.calendar.specs.Span.{in_span};
+ghost use Rattle.calendar.specs.Style.{dates_by};
 
 use crate::range::is_between;
 use crate::refusal::Refusal;
-use crate::span::{day_within, is_in_span};
+use crate::span::{SpanDay, day_within};
 use crate::style::{Calendar, Style};
 use crate::year::{NamedYear, is_leap, is_served, new_year, year_at};
 
@@ -149,30 +151,37 @@ fn month_at(leap_year: bool, day_of_year: u64) -> Month
     Month { number: estimate }
 }
 
-// The date of a day of a calendar.
-#[tactic(auto, using(crate::proofs::date::Dates::in_year, crate::proofs::date::Dates::found, crate::proofs::date::Laws::has_day))]
-fn date_in_calendar(calendar: Calendar, day: u64) -> Result<CalendarDate, Refusal>
-    ensures { IsDateInCalendar calendar day result }
+// The date of a day of the span.
+#[tactic(auto, using(crate::proofs::date::Laws::date_found))]
+fn date_in_calendar(calendar: Calendar, day: u64) -> CalendarDate
+    requires { in_span calendar day ≡ true }
+    ensures { IsDateOf calendar day (Ok result) }
 {
-    if !is_in_span(calendar, day) {
-        return Err(Refusal::Span);
-    }
     let year = year_at(calendar, day);
     let day_of_year = day - new_year(calendar, year);
     let leap_year = is_leap(calendar, year);
     let month = month_at(leap_year, day_of_year);
-    Ok(CalendarDate {
+    CalendarDate {
         year,
         month: month.number,
         day: day_of_year - month.days_before(leap_year) + 1,
-    })
+    }
+}
+
+impl SpanDay {
+    // Its date.
+    pub fn date(self) -> CalendarDate
+        ensures { IsDateOf (dates_by self.style) self.number (Ok result) }
+    {
+        date_in_calendar(self.style.dates_by(), u64::from(self.number))
+    }
 }
 
 // The date of a day of a style.
 pub fn date_in_style(style: Style, day: u64) -> Result<CalendarDate, Refusal>
     ensures { IsDateInStyle style day result }
 {
-    date_in_calendar(style.dates_by(), day)
+    Ok(SpanDay::new(style, day)?.date())
 }
 
 // Day to date: refused by 1 or 6.

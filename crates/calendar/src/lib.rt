@@ -4,6 +4,7 @@
 #![tactic(auto)]
 
 pub mod date;
+pub mod day;
 pub mod distance;
 pub mod range;
 pub mod refusal;

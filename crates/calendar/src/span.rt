@@ -1,10 +1,19 @@
 // The days that a style may name, by the calendar that its dates go by.
-ghost use Rattle.std.specs.Prelude.{◌≡◌};
+ghost use Rattle.std.specs.Prelude.{true, ◌≡◌};
+ghost use Rattle.calendar.specs.Style.{dates_by};
 ghost use Rattle.calendar.specs.Span.{first_day, last_day, in_span, within};
 
 use crate::range::is_between;
 use crate::refusal::Refusal;
-use crate::style::Calendar;
+use crate::style::{Calendar, Style};
+
+// A day of a style's span.
+#[derive(Clone, Copy, PartialEq, Eq)]
+pub struct SpanDay {
+    pub style: Style,
+    pub number: u32,
+    ghost in_span: { in_span (dates_by style) number ≡ true },
+}
 
 // The first day of the span.
 fn first_day(calendar: Calendar) -> u64

@@ -5,17 +5,14 @@ ghost use Rattle.calendar.specs.Weekday.{weekday_in_style, weekday_of_day, first
 
 use crate::range::is_between;
 use crate::refusal::Refusal;
-use crate::span::is_in_span;
+use crate::span::SpanDay;
 use crate::style::Style;
 
 // The weekday of a day of a style.
 pub fn weekday_in_style(style: Style, day: u64) -> Result<u32, Refusal>
     ensures { result ≡ weekday_in_style style day }
 {
-    if !is_in_span(style.dates_by(), day) {
-        return Err(Refusal::Span);
-    }
-    Ok((day % 7 + 1) as u32)
+    Ok(SpanDay::new(style, day)?.weekday())
 }
 
 // Weekday: refused by 1 or 6.

@@ -19,10 +19,7 @@ pub(crate) fn anchor_in_year(anchor: &[u8], named: NamedYear) -> Result<u32, Ref
         return Err(Refusal::Form);
     }
     if anchor[0] > b'9' {
-        let feast = feast_of_word(anchor);
-        if feast == 0 {
-            return Err(Refusal::Form);
-        }
+        let feast = feast_of_word(anchor).ok_or(Refusal::Form)?;
         return feast_in_year(named, feast);
     }
     // A day of one or two digits.
@@ -30,14 +27,7 @@ pub(crate) fn anchor_in_year(anchor: &[u8], named: NamedYear) -> Result<u32, Ref
     if anchor[end] != b'.' {
         return Err(Refusal::Form);
     }
-    let start = end + 1;
-    let day = short_number_of(&anchor[..end], 31);
-    if day == 0 {
-        return Err(Refusal::Form);
-    }
-    let month = short_number_of(&anchor[start..], 12);
-    if month == 0 {
-        return Err(Refusal::Form);
-    }
+    let day = short_number_of(&anchor[..end], 31).ok_or(Refusal::Form)?;
+    let month = short_number_of(&anchor[end + 1..], 12).ok_or(Refusal::Form)?;
     day_in_year(named, month, day)
 }

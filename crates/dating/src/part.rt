@@ -1,11 +1,11 @@
 // The part of the line that is the feast word or date, for the highlight.
 ghost use Rattle.dating.specs.Part.{IsPlace, PartOf};
 
-use crate::line::{Reading, reading_of_line};
+use crate::line::reading_of_line;
 use words::text::behind_last;
 
 // Where a part of a line begins and where it ends.
-#[derive(Clone, Copy)]
+#[derive(Clone, Copy, PartialEq, Eq)]
 pub struct Place {
     pub start: usize,
     pub end: usize,
@@ -16,15 +16,14 @@ pub fn place_of_part(line: &[u8]) -> Place
     ensures { IsPlace line.now result }
 {
     match reading_of_line(line) {
-        Reading::Dated {
-            style: _,
-            day: _,
-            phrase,
-        } => Place {
-            start: behind_last(&line[..phrase], b' '),
-            end: phrase,
-        },
-        Reading::Refused(_) => Place { start: 0, end: 0 },
+        Ok(reading) => {
+            let end = reading.phrase;
+            Place {
+                start: behind_last(&line[..end], b' '),
+                end,
+            }
+        }
+        Err(_) => Place { start: 0, end: 0 },
     }
 }
 
@@ -33,7 +32,5 @@ pub fn part_of_line<'a>(line: &'a [u8]) -> &'a [u8]
     ensures { PartOf line.entry result }
 {
     let place = place_of_part(line);
-    let start = place.start;
-    let end = place.end;
-    &line[start..end]
+    &line[place.start..place.end]
 }

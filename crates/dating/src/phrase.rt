@@ -8,28 +8,28 @@ ghost use Rattle.dating.specs.Steps.{phrases};
 
 use crate::act::act;
 use crate::anchor::anchor_in_year;
+use calendar::refusal::Refusal;
 use calendar::style::Style;
 use calendar::year::NamedYear;
 use words::wrapper::lead_of;
 
 // The day of a phrase in a year; style and year come by themselves, which are handed on in registers, as a record is not.
-// It calls itself once for each wrapper, so its depth is bounded by the phrase's length.
+// It calls itself once for each wrapper, so its depth is bounded by the phrase's length. Each day or refusal is taken apart by let .. else, as the scope asks.
 pub(crate) fn phrase_in_year(phrase: &[u8], style: Style, year: u64) -> Result<u32, Refusal>
     requires { length phrase.now ≤ 120 }
     ensures { Told phrases (phrase_day (named style year)) (Err Form) phrase.now result }
 {
-    let found = lead_of(phrase);
-    if found.length == 0 {
+    let Some(lead) = lead_of(phrase) else {
         let answer = anchor_in_year(phrase, NamedYear { style, year });
         let Ok(day) = answer else {
             return answer;
         };
         return Ok(day);
-    }
-    let length = found.length;
-    let behind = phrase_in_year(&phrase[length..], style, year);
-    let Ok(day) = behind else {
-        return behind;
     };
-    act(found.number, style.dates_by(), day)
+    let rest = &phrase[lead.length..];
+    let answer = phrase_in_year(rest, style, year);
+    let Ok(day) = answer else {
+        return answer;
+    };
+    act(lead.wrapper, style.dates_by(), day)
 }

@@ -4,10 +4,10 @@ use mathlib.Core.List.{[], ◌∷◌}
 use mathlib.Core.Path.{◌≡◌, refl, sym, ◌∙◌, ap}
 use Prim.Native.Nat.{ℕ, suc, pred, ◌+◌, ◌≤◌}
 use native.Mathlib.Omega.{arith}
-use Rattle.calendar.proofs.date.Dates.{date_bounds, bounds_date, Dated, DatedOn, year_of, one_date, next_dated, every_day}
+use Rattle.calendar.proofs.date.Dates.{in_year, found, date_bounds, bounds_date, Dated, DatedOn, year_of, one_date, next_dated, every_day}
 use Rattle.calendar.proofs.date.Months.{month_small}
 use Rattle.calendar.proofs.refusal.Laws.{both_checked, no_day, passed}
-use Rattle.calendar.proofs.span.Laws.{span_small, served_small, year_served_lem, after_start}
+use Rattle.calendar.proofs.span.Laws.{its_year, span_small, served_small, year_served_lem, after_start}
 use Rattle.calendar.specs.Date.{is_date, day_number, date_tests, day_in_calendar, day_in_year, day_of_date, IsDateOf, IsDateInCalendar, next_date}
 use Rattle.calendar.specs.Refusal.{◌unless◌, checked}
 use Rattle.calendar.specs.Span.{earliest, latest, in_span, span_tests}
@@ -107,3 +107,6 @@ answered_case c y m d false e h i = rw e
 pub answered : (c : Calendar) (y m d : ℕ) → is_date c y m d ≡ true → (served c y ≡ true → in_span c (day_number c y m d) ≡ true)
     → day_in_calendar c y m d ≡ checked Err (Ok (day_number c y m d)) (Year unless served c y ∷ [])
 answered c y m d h i = answered_case c y m d _ refl h i
+
+-- what finds the date of a day of the span
+pub ruleset date_found = (in_year, found, has_day, its_year)

@@ -73,3 +73,6 @@ year_served_lem c n y e h =
     in_range (first_year c) y 9999
     (year_not_after c n (first_year c) y (omega (arith, span_start c)) h.to)
     (year_not_after c n y 9999 h.from (omega (arith, span_end c)))
+
+pub its_year : (c : Calendar) (n y : ℕ) → in_span c n ≡ true → YearOf c n y → (1 ≤ y) × (y ≤ 10000)
+its_year c n y e h = omega (arith, served_small c y (year_served_lem c n y e h))
