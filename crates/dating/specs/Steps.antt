@@ -1,5 +1,5 @@
 -- What the private functions of the reader and the writer answer. No public promise is stated by these.
-use Rattle.std.specs.Prelude.{Bool, true, ◌||◌, cond, List, ◌++◌, ◌≡◌, ℕ, ◌+◌, ◌/◌, ◌%◌, eqb, ltb, length}
+use Rattle.std.specs.Prelude.{true, cond, List, ◌++◌, ◌≡◌, ℕ, ◌+◌, eqb, length}
 use Rattle.std.proofs.lemmas.List.Edits.{sets}
 use Rattle.calendar.specs.Style.{style_letter}
 use Rattle.church.specs.Feast.{rule_day}
@@ -11,24 +11,11 @@ use Rattle.dating.specs.Phrase.{Phrase, spell_phrase, GoodPhrase}
 use Rattle.dating.specs.Writer.{IsDateText}
 use Rattle.calendar.specs.declared.style.Style.TheVariants.{J, G, O}
 use Rattle.calendar.specs.declared.style.Style.{Style}
-use Rattle.calendar.specs.declared.weekday.Side.TheVariants.{After, Before}
-use Rattle.calendar.specs.declared.weekday.Side.{Side}
-use Rattle.calendar.specs.declared.weekday.Start.TheVariants.{Counted, Uncounted}
-use Rattle.calendar.specs.declared.weekday.Start.{Start}
 use Rattle.calendar.specs.declared.year.NamedYear.{NamedYear}
 use Rattle.dating.specs.declared.line.Ending.{Ending}
-use Rattle.dating.specs.declared.line.Ending.TheVariants.{At}
-use Rattle.dating.specs.declared.line.Reading.TheVariants.{Dated, Refused}
 use Rattle.dating.specs.declared.line.Reading.{Reading}
-use Rattle.std.specs.Prelude.{Result, Ok, Err}
+use Rattle.std.specs.Prelude.{Option, Some, None, Result, Ok, Err}
 use Rattle.calendar.specs.declared.refusal.Refusal.{Refusal}
-
--- whether the starting day counts, and which side is searched, by the number of a weekday's wrapper
-abbrev pub start_of : ℕ → Start
-start_of n = cond (ltb n 16) Uncounted Counted
-
-abbrev pub side_of : ℕ → Side
-side_of n = cond (eqb (n / 8 % 2) 0) After Before
 
 abbrev pub anchors : Grammar
 anchors = record { Tree = Anchor; Good = GoodAnchor; spell = spell_anchor }
@@ -40,13 +27,13 @@ anchor_day t a = rule_day t (anchor_rule a)
 abbrev pub phrases : Grammar
 phrases = record { Tree = Phrase; Good = GoodPhrase; spell = spell_phrase }
 
--- the byte is the letter of a style
-abbrev pub is_style_letter : ℕ → Bool
-is_style_letter x = eqb x (style_letter G) || eqb x (style_letter J) || eqb x (style_letter O)
-
--- the style whose letter the byte is; J for any other byte
-abbrev pub style_of_letter : ℕ → Style
-style_of_letter x = cond (eqb x (style_letter G)) G (cond (eqb x (style_letter O)) O J)
+-- the style whose letter the byte is
+abbrev pub style_of_letter : ℕ → Option Style
+style_of_letter x =
+    cond (eqb x (style_letter G)) (Some G)
+    (cond (eqb x (style_letter J)) (Some J)
+    (cond (eqb x (style_letter O)) (Some O)
+    None))
 
 -- any bytes before a year and a style letter
 pub record Ended : Type 0 where
@@ -58,7 +45,7 @@ endings = record { Tree = Ended; Good = λ x. GoodYear x.named; spell = λ x. x.
 
 -- how many bytes stand before the ending, and the year that it names
 abbrev pub end_at : Ended → Ending
-end_at x = At (length x.front) x.named
+end_at x = record { phrase = length x.front; named = x.named }
 
 -- the line that the day n is read from, of the style y and with a phrase of k bytes
 pub record ReadFrom (s : List ℕ) (y : Style) (n k : ℕ) : Type 0 where
@@ -71,9 +58,9 @@ pub record ReadFrom (s : List ℕ) (y : Style) (n k : ℕ) : Type 0 where
   pub phrase : length (spell_phrase line.phrase) ≡ k
 
 -- r is the reading of the line s
-abbrev pub IsReading : List ℕ → Reading → Type 0
-IsReading s (Dated y n k) = ReadFrom s y n k
-IsReading s (Refused x) = IsDayOfLine s (Err x)
+abbrev pub IsReading : List ℕ → Result Reading Refusal → Type 0
+IsReading s (Ok r) = ReadFrom s r.day.style r.day.number r.phrase
+IsReading s (Err x) = IsDayOfLine s (Err x)
 
 -- the bytes w are put at the place i of a buffer, and r is the place behind them
 pub record Put (before : List ℕ) (i : ℕ) (w after : List ℕ) (r : ℕ) : Type 0 where

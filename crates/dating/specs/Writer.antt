@@ -1,7 +1,7 @@
 -- The writer: the day of a style as a date.
 use Rattle.std.specs.Prelude.{List, [], ◌∷◌, ◌++◌, ◌≡◌, ℕ, leb, length}
 use Rattle.calendar.specs.Date.{day_in_year}
-use Rattle.calendar.specs.Refusal.{refusal_number, Test, ◌unless◌, checked}
+use Rattle.calendar.specs.Refusal.{Test, ◌unless◌, checked}
 use Rattle.calendar.specs.Span.{in_span}
 use Rattle.calendar.specs.Style.{style_letter, dates_by, style_of, in_style}
 use Rattle.calendar.specs.Year.{named}

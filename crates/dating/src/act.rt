@@ -11,6 +11,7 @@ use calendar::weekday::first_weekday;
 use words::wrapper::Wrapper;
 
 // The day that a wrapper makes of a day of the span.
+#[tactic(auto, using(calendar::proofs::span::Laws::span_small))]
 pub(crate) fn act(wrapper: Wrapper, calendar: Calendar, day: u32) -> Result<u32, Refusal>
     requires { GoodWrapper wrapper × (in_span calendar day ≡ true) }
     ensures { result ≡ acted calendar wrapper (Ok day) }

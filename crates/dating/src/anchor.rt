@@ -19,7 +19,9 @@ pub(crate) fn anchor_in_year(anchor: &[u8], named: NamedYear) -> Result<u32, Ref
         return Err(Refusal::Form);
     }
     if anchor[0] > b'9' {
-        let feast = feast_of_word(anchor).ok_or(Refusal::Form)?;
+        let Some(feast) = feast_of_word(anchor) else {
+            return Err(Refusal::Form);
+        };
         return feast_in_year(named, feast);
     }
     // A day of one or two digits.
@@ -27,7 +29,11 @@ pub(crate) fn anchor_in_year(anchor: &[u8], named: NamedYear) -> Result<u32, Ref
     if anchor[end] != b'.' {
         return Err(Refusal::Form);
     }
-    let day = short_number_of(&anchor[..end], 31).ok_or(Refusal::Form)?;
-    let month = short_number_of(&anchor[end + 1..], 12).ok_or(Refusal::Form)?;
+    let Some(day) = short_number_of(&anchor[..end], 31) else {
+        return Err(Refusal::Form);
+    };
+    let Some(month) = short_number_of(&anchor[end + 1..], 12) else {
+        return Err(Refusal::Form);
+    };
     day_in_year(named, month, day)
 }

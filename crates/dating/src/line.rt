@@ -5,7 +5,9 @@ ghost use Rattle.dating.specs.Line.{IsDayOfLine, IsNumberOfLine};
 ghost use Rattle.dating.specs.Steps.{style_of_letter, endings, end_at, IsReading};
 
 use crate::phrase::phrase_in_year;
+use calendar::range::is_between;
 use calendar::refusal::{Refusal, number_or_refusal};
+use calendar::span::SpanDay;
 use calendar::style::Style;
 use calendar::year::NamedYear;
 use words::numeral::{four_digits, number_of};
@@ -18,11 +20,10 @@ struct Ending {
     named: NamedYear,
 }
 
-// What an accepted line is read as: its style, its day and the length of its phrase.
+// What an accepted line is read as: its day and the length of its phrase.
 #[derive(Clone, Copy)]
 pub(crate) struct Reading {
-    pub style: Style,
-    pub day: u32,
+    pub day: SpanDay,
     pub phrase: usize,
 }
 
@@ -60,7 +61,10 @@ fn ending_of(line: &[u8]) -> Option<Ending>
         ) {
             return Some(Ending {
                 phrase: length - 7,
-                named: NamedYear { style, year: u64::from(year) },
+                named: NamedYear {
+                    style,
+                    year: u64::from(year),
+                },
             });
         }
     }
@@ -80,21 +84,26 @@ fn ending_of(line: &[u8]) -> Option<Ending>
 pub(crate) fn reading_of_line(line: &[u8]) -> Result<Reading, Refusal>
     ensures { IsReading line.now result }
 {
-    if line.is_empty() || line.len() > 120 {
+    if !is_between(1, line.len() as u64, 120) {
         return Err(Refusal::Length);
     }
-    let ending = ending_of(line).ok_or(Refusal::Form)?;
+    let Some(ending) = ending_of(line) else {
+        return Err(Refusal::Form);
+    };
     let style = ending.named.style;
     let phrase = ending.phrase;
-    let day = phrase_in_year(&line[..phrase], style, ending.named.year)?;
-    Ok(Reading { style, day, phrase })
+    let number = phrase_in_year(&line[..phrase], style, ending.named.year)?;
+    Ok(Reading {
+        day: SpanDay { style, number },
+        phrase,
+    })
 }
 
 // The day of a dating line: refused by 2, 3, 4, 5 or 6.
 pub fn day_of_line(line: &[u8]) -> Result<u32, Refusal>
     ensures { IsDayOfLine line.now result }
 {
-    Ok(reading_of_line(line)?.day)
+    Ok(reading_of_line(line)?.day.number)
 }
 
 // The one number of the answer to a dating line: its day, or the refusal 2, 3, 4, 5 or 6.

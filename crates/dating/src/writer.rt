@@ -1,16 +1,14 @@
 // The writer: the day of a style as a date.
-ghost use Rattle.std.specs.Prelude.{true, ◌≡◌, ◌+◌, ◌≤◌, length};
-ghost use Rattle.calendar.specs.Span.{in_span};
-ghost use Rattle.calendar.specs.Style.{dates_by};
+ghost use Rattle.std.specs.Prelude.{◌≡◌, ◌+◌, ◌≤◌, length};
+ghost use Rattle.calendar.specs.Year.{named};
 ghost use Rattle.words.specs.Numeral.{numeral, field};
 ghost use Rattle.dating.specs.Steps.{Put, PutsDate};
 ghost use Rattle.dating.specs.Writer.{date_text, WritesInStyle, Writes};
 
-use calendar::date::{DateAnswer, date_in_style};
+use calendar::date::CalendarDate;
 use calendar::refusal::Refusal;
-use calendar::span::day_within;
+use calendar::span::SpanDay;
 use calendar::style::Style;
-use calendar::year::NamedYear;
 
 // How many digits a number has.
 fn digit_count(number: u64) -> usize
@@ -48,45 +46,33 @@ pub(crate) fn put_number(buffer: &mut [u8], at: usize, number: u64, behind: u8) 
     }
     let end = at + digit_count(number);
     buffer[end] = behind;
-    let mut i = end;
     let mut rest = number;
-    while rest >= 10 {
-        i -= 1;
-        buffer[i] = b'0' + (rest % 10) as u8;
+    for place in (at + 1..end).rev() {
+        buffer[place] = b'0' + (rest % 10) as u8;
         rest /= 10;
     }
     buffer[at] = b'0' + rest as u8;
     end + 1
 }
 
-// Puts a date of the named year at a place, and answers the place behind it.
-fn put_date(buffer: &mut [u8], at: usize, named: NamedYear, month: u64, day: u64) -> usize
-    requires { at + length (date_text named month day) ≤ length buffer.old }
-    ensures { Put buffer.old at (date_text named month day) buffer.new result }
+// Puts a date of a style at a place, and returns the place after it.
+fn put_date(buffer: &mut [u8], at: usize, style: Style, date: CalendarDate) -> usize
+    requires { at + length (date_text (named style date.year) date.month date.day) ≤ length buffer.old }
+    ensures { Put buffer.old at (date_text (named style date.year) date.month date.day) buffer.new result }
 {
-    let month_at = put_number(buffer, at, day, b'.');
-    let year_at = put_number(buffer, month_at, month, b' ');
-    let letter_at = put_number(buffer, year_at, named.year, b' ');
-    let style = named.style;
+    let month_at = put_number(buffer, at, date.day, b'.');
+    let year_at = put_number(buffer, month_at, date.month, b' ');
+    let letter_at = put_number(buffer, year_at, date.year, b' ');
     buffer[letter_at] = style.letter();
     letter_at + 1
 }
 
-// Puts the date of a day of the span at a place, and answers the place behind it.
-pub(crate) fn put_day(buffer: &mut [u8], at: usize, style: Style, day: u64) -> usize
-    requires { (at + 12 ≤ length buffer.old) × (in_span (dates_by style) day ≡ true) }
-    ensures { PutsDate style day at buffer.old buffer.new result }
+// Puts the date of a day of the span at a place, and returns the place after it.
+pub(crate) fn put_day(buffer: &mut [u8], at: usize, day: SpanDay) -> usize
+    requires { at + 12 ≤ length buffer.old }
+    ensures { PutsDate day.style day.number at buffer.old buffer.new result }
 {
-    match date_in_style(style, day) {
-        DateAnswer::On { year, month, day } => put_date(
-            buffer,
-            at,
-            NamedYear { style, year },
-            month,
-            day,
-        ),
-        DateAnswer::NoDate(_) => at,
-    }
+    put_date(buffer, at, day.style, day.date())
 }
 
 // The writer in a style: refused by 2 or 6.
@@ -96,10 +82,8 @@ pub fn write_in_style(style: Style, day: u64, buffer: &mut [u8]) -> Result<usize
     if buffer.len() < 12 {
         return Err(Refusal::Length);
     }
-    match day_within(style.dates_by(), day) {
-        Ok(_) => Ok(put_day(buffer, 0, style, day)),
-        Err(refusal) => Err(refusal),
-    }
+    let day = SpanDay::new(style, day)?;
+    Ok(put_day(buffer, 0, day))
 }
 
 // The writer: refused by 1, 2 or 6.

@@ -24,7 +24,7 @@ use Rattle.dating.specs.Anchor.{Anchor, feast, date, spell_anchor, GoodAnchor}
 use Rattle.dating.specs.Steps.{anchors, anchor_day}
 use Rattle.calendar.specs.declared.refusal.Refusal.TheVariants.{Form}
 use Rattle.calendar.specs.declared.year.NamedYear.{NamedYear}
-use Rattle.std.specs.Prelude.{Result, Err}
+use Rattle.std.specs.Prelude.{Some, None, Result, Err}
 use Rattle.calendar.specs.declared.refusal.Refusal.{Refusal}
 
 -- ---- what stands in neither
@@ -92,15 +92,14 @@ module _ (t : NamedYear) (s : List ℕ) where
       rw (← k.2, get_or-append (numeral d) (point ∷ numeral m) 0 i h) ((numeral_digits d k.0.0 (omega (arith, k.0))).digits i h)
 
   -- a first byte above the digits is a feast word's
-  module _ (f : ℕ) (told : Told feast_words (λ n. n) 0 s f) where
-    pub no_feast : 57 < get_or s 0 0 → f ≡ 0 → Tells (Err Form)
-    no_feast high z = no_anchor (number_untold f told z) (λ d m k. omega (arith, day_byte d m 0 k (numeral_length d).0))
+  pub no_feast : Told feast_words Some None s None → 57 < get_or s 0 0 → Tells (Err Form)
+  no_feast told high = no_anchor (number_untold told) (λ d m k. omega (arith, day_byte d m 0 k (numeral_length d).0))
 
-    pub feast_told : 0 < f → Tells (feast_in_year t f)
-    unfolding spell_anchor GoodAnchor anchor_day feast_in_year
-    feast_told h =
-        let n = number_told f told h in
-        produced (feast f) n.0 n.1 (rw (in_range 1 f 48 n.0.0 n.0.1))
+  pub feast_told : (f : ℕ) → Told feast_words Some None s (Some f) → Tells (feast_in_year t f)
+  unfolding spell_anchor GoodAnchor anchor_day feast_in_year
+  feast_told f told =
+      let n = number_told f told in
+      produced (feast f) n.0 n.1 (rw (in_range 1 f 48 n.0.0 n.0.1))
 
   -- and any other a date's
   module _ (e : ℕ) (may : MayDate s e) where
@@ -128,17 +127,17 @@ module _ (t : NamedYear) (s : List ℕ) where
     pub no_point : (get_or s e 0 ≡ point → ⊥) → Tells (Err Form)
     no_point n = undated (λ d m k. n (date_cut d m k).1)
 
-    pub no_day : (d : ℕ) → Told (numerals 31) (λ n. n) 0 (take e s) d → d ≡ 0 → Tells (Err Form)
-    no_day d told z = undated (λ n m k. number_untold d told z n k.0.0 k.0.1 (date_cut n m k).0)
+    pub no_day : Told (numerals 31) Some None (take e s) None → Tells (Err Form)
+    no_day told = undated (λ n m k. number_untold told n k.0.0 k.0.1 (date_cut n m k).0)
 
-    pub no_month : (m : ℕ) → Told (numerals 12) (λ n. n) 0 (drop (e + 1) s) m → m ≡ 0 → Tells (Err Form)
-    no_month m told z = undated (λ d n k. number_untold m told z n k.1.0 k.1.1 (date_cut d n k).2)
+    pub no_month : Told (numerals 12) Some None (drop (e + 1) s) None → Tells (Err Form)
+    no_month told = undated (λ d n k. number_untold told n k.1.0 k.1.1 (date_cut d n k).2)
 
-    pub date_told : (d m : ℕ) → get_or s e 0 ≡ point → Told (numerals 31) (λ n. n) 0 (take e s) d → 0 < d
-        → Told (numerals 12) (λ n. n) 0 (drop (e + 1) s) m → 0 < m → Tells (day_in_year t m d)
+    pub date_told : (d m : ℕ) → get_or s e 0 ≡ point → Told (numerals 31) Some None (take e s) (Some d)
+        → Told (numerals 12) Some None (drop (e + 1) s) (Some m) → Tells (day_in_year t m d)
     unfolding spell_anchor GoodAnchor anchor_day day_in_calendar
-    date_told d m p td hd tm hm =
-        let nd = number_told d td hd in
-        let nm = number_told m tm hm in
+    date_told d m p td tm =
+        let nd = number_told d td in
+        let nm = number_told m tm in
         let whole = rw p at (split_at s e 0 (omega arith)) in
         produced (date d m) (nd.0, nm.0) (rw (nd.1, nm.1, add-one) (sym whole)) refl

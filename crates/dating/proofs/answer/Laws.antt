@@ -16,7 +16,7 @@ use Rattle.dating.proofs.writer.Laws.{put_on, put_length, put_byte, field_length
 use Rattle.calendar.specs.Refusal.{refusal_number}
 use Rattle.calendar.specs.Span.{in_span}
 use Rattle.calendar.specs.Style.{dates_by}
-use Rattle.calendar.specs.Weekday.{weekday, weekday_in_style, weekday_or_zero}
+use Rattle.calendar.specs.Weekday.{weekday}
 use Rattle.words.specs.Numeral.{field}
 use Rattle.words.specs.Text.{space}
 use Rattle.dating.specs.Answer.{line_feed, day_fields, DatedText, refused_text, IsAnswer, dated, refused, PutsAnswer}
@@ -35,9 +35,6 @@ pub refused_length : (x : Refusal) → length (refused_text x) ≡ 2
 refused_length x = digit_field (refusal_number x) line_feed (omega (arith, refusal_digit x))
 
 -- ---- the text of a day
-pub its_weekday : (s : Style) (n : ℕ) → in_span (dates_by s) n ≡ true → weekday_or_zero (weekday_in_style s n) ≡ weekday n
-its_weekday s n h = rw h
-
 -- room for the fields before the date
 module _ (c : Calendar) (n : ℕ) (h : in_span c n ≡ true) where
   pub fields_length : (length (field 0 space) + length (field n space) + length (field (weekday n) space) ≤ 12)

@@ -25,10 +25,9 @@ use Rattle.dating.specs.Steps.{anchors, anchor_day, phrases}
 use Rattle.calendar.specs.declared.refusal.Refusal.TheVariants.{Form, Year, Date, Span}
 use Rattle.calendar.specs.declared.style.Calendar.{Calendar}
 use Rattle.calendar.specs.declared.year.NamedYear.{NamedYear}
-use Rattle.words.specs.declared.wrapper.Lead.TheVariants.{Wrapped, Plain}
 use Rattle.words.specs.declared.wrapper.Lead.{Lead}
 use Rattle.words.specs.declared.wrapper.Wrapper.{Wrapper}
-use Rattle.std.specs.Prelude.{Result, Ok, Err}
+use Rattle.std.specs.Prelude.{Some, None, Result, Ok, Err}
 use Rattle.calendar.specs.declared.refusal.Refusal.{Refusal}
 
 -- A wrapper acts on the day of the phrase behind it.
@@ -79,43 +78,42 @@ told_in_span t s n (unproduced none m) = no_day Form n (sym m)
 
 -- ---- what a phrase tells, by what it begins with
 module _ (s : List ℕ) (t : NamedYear) where
-  pub plain_told : (l : Lead) → Told leadings lead Plain s l → l ≡ Plain → (r : Result ℕ Refusal) → Told anchors (anchor_day t) (Err Form) s r
+  pub plain_told : Told leadings (λ x. Some (lead x)) None s None → (r : Result ℕ Refusal) → Told anchors (anchor_day t) (Err Form) s r
       → Told phrases (phrase_day t) (Err Form) s r
   unfolding spell_phrase GoodPhrase phrase_day comes_to stays_in anchor_of anchor_day
-  plain_told l (produced x g e m) z r told = let f : Wrapped x.wrapper (length (wrapper_words x.wrapper)) ≡ Plain = sym m ∙ z in no_false cc
-  plain_told l (unproduced none m) z r (produced a g e f) = produced (plain a) g e f
-  plain_told l (unproduced none m) z r (unproduced n f) = unproduced (λ p g e. neither p g e) f
+  plain_told (produced x g e m) r told = no_false cc
+  plain_told (unproduced none m) r (produced a g e f) = produced (plain a) g e f
+  plain_told (unproduced none m) r (unproduced n f) = unproduced (λ p g e. neither p g e) f
     where
       neither : (p : Phrase) → GoodPhrase p → spell_phrase p ≡ s → ⊥
       neither (plain a) g e = n a g e
       neither (wrapped w p) g e = none (record { wrapper = w; rest = spell_phrase p }) g.0 e
 
-pub leads : (s : List ℕ) (w : Wrapper) (n : ℕ) → Told leadings lead Plain s (Wrapped w n)
-    → (n ≡ length (wrapper_words w)) × GoodWrapper w × (wrapper_words w ++ drop n s ≡ s)
-leads s w n (unproduced none m) = no_false cc
-leads s w n (produced x g e m) =
-    let v : w ≡ x.wrapper = cc in
-    let l : n ≡ length (wrapper_words x.wrapper) = cc in
-    let d : drop n s ≡ x.rest = rw (l, ← e) (drop-append_seam (wrapper_words x.wrapper) x.rest) in
-    (rw v l, rw v g, rw (v, d) e)
+pub leads : (s : List ℕ) (l : Lead) → Told leadings (λ x. Some (lead x)) None s (Some l)
+    → (l.length ≡ length (wrapper_words l.wrapper)) × GoodWrapper l.wrapper × (wrapper_words l.wrapper ++ drop l.length s ≡ s)
+leads s l (unproduced none m) = no_false cc
+leads s l (produced x g e m) =
+    let same : l ≡ lead x = cc in
+    let d : drop (length (wrapper_words x.wrapper)) s ≡ x.rest = rw (← e) (drop-append_seam (wrapper_words x.wrapper) x.rest) in
+    rw same (refl, g, rw d e)
 
-module _ (s : List ℕ) (w : Wrapper) (n : ℕ) (begins : Told leadings lead Plain s (Wrapped w n)) where
-  pub shorter : (1 ≤ n) × (n ≤ length s)
+module _ (s : List ℕ) (l : Lead) (begins : Told leadings (λ x. Some (lead x)) None s (Some l)) where
+  pub shorter : (1 ≤ l.length) × (l.length ≤ length s)
   shorter =
-      let x = spaced w in
+      let x = spaced l.wrapper in
       let long = ap length x.1 ∙ length-append x.0 (space ∷ []) in
-      let whole = sym (ap length (leads s w n begins).2) ∙ length-append (wrapper_words w) (drop n s) in
-      let count = (leads s w n begins).0 in
+      let whole = sym (ap length (leads s l begins).2) ∙ length-append (wrapper_words l.wrapper) (drop l.length s) in
+      let count = (leads s l begins).0 in
       (omega arith, omega arith)
 
-  pub wrapped_told : (t : NamedYear) (r : Result ℕ Refusal) → Told phrases (phrase_day t) (Err Form) (drop n s) r
-      → Told phrases (phrase_day t) (Err Form) s (acted (dates_by t.style) w r)
+  pub wrapped_told : (t : NamedYear) (r : Result ℕ Refusal) → Told phrases (phrase_day t) (Err Form) (drop l.length s) r
+      → Told phrases (phrase_day t) (Err Form) s (acted (dates_by t.style) l.wrapper r)
   unfolding spell_phrase GoodPhrase
   wrapped_told t r (produced p g e m) =
-      produced (wrapped w p) ((leads s w n begins).1, g) (rw e (leads s w n begins).2) (ap (acted (dates_by t.style) w) m ∙ sym (wrapper_acts t w p))
+      produced (wrapped l.wrapper p) ((leads s l begins).1, g) (rw e (leads s l begins).2) (ap (acted (dates_by t.style) l.wrapper) m ∙ sym (wrapper_acts t l.wrapper p))
   wrapped_told t r (unproduced none m) = unproduced (λ p g e. neither p g e) (rw m)
     where
       neither : (p : Phrase) → GoodPhrase p → spell_phrase p ≡ s → ⊥
-      neither (plain a) g e = no_anchor a w (drop n s) g (e ∙ sym (leads s w n begins).2)
+      neither (plain a) g e = no_anchor a l.wrapper (drop l.length s) g (e ∙ sym (leads s l begins).2)
       neither (wrapped v p) g e =
-          none p g.1 (one_wrapper v w (spell_phrase p) (drop n s) g.0 (leads s w n begins).1 (e ∙ sym (leads s w n begins).2)).1
+          none p g.1 (one_wrapper v l.wrapper (spell_phrase p) (drop l.length s) g.0 (leads s l begins).1 (e ∙ sym (leads s l begins).2)).1

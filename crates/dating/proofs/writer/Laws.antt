@@ -1,8 +1,9 @@
 -- Bytes put into a buffer one behind the other, and what dates are made of.
-use mathlib.Core.Bool.{true}
+use mathlib.Core.Bool.{true, false}
 use mathlib.Core.List.{List, [], ◌∷◌, ◌++◌, append_assoc}
 use mathlib.Core.Path.{◌≡◌, refl, sym, ◌∙◌, ap}
 use Prim.Native.Nat.{ℕ, suc, ◌+◌, ◌-◌, ◌/◌, ◌%◌, ◌<◌, ◌≤◌}
+use native.Mathlib.Decide.{dec_lt}
 use native.Mathlib.Omega.{arith}
 use lib.ListN.{length, set, length-append}
 use lib.Seq.{sets, length-sets, set_comm, set-set}
@@ -10,11 +11,11 @@ use borrow.Author.Tests.{le-leb, lt-leb}
 use Rattle.places.proofs.Bytes.{sets_both, sets_start}
 use Rattle.calendar.proofs.date.Laws.{date_small, day_date, one_answer_in_calendar}
 use Rattle.calendar.proofs.range.Laws.{in_range}
-use Rattle.calendar.proofs.refusal.Laws.{refused_by, both_checked}
-use Rattle.words.proofs.numeral.Laws.{one_digit, more_digits, more_length, two_digits, four_digits}
+use Rattle.calendar.proofs.refusal.Laws.{both_checked}
+use Rattle.words.proofs.numeral.Laws.{numeral_length, one_digit, more_digits, more_length, two_digits, four_digits}
 use Rattle.dating.proofs.line.Laws.{line_length}
 use Rattle.calendar.specs.Date.{day_in_calendar, day_in_year}
-use Rattle.calendar.specs.Span.{in_span, within}
+use Rattle.calendar.specs.Span.{in_span}
 use Rattle.calendar.specs.Style.{style_letter, dates_by}
 use Rattle.calendar.specs.Year.{named}
 use Rattle.words.specs.Numeral.{digit, numeral, field}
@@ -31,7 +32,7 @@ use Rattle.calendar.specs.declared.style.Style.{Style}
 use Rattle.calendar.specs.declared.year.NamedYear.{NamedYear}
 use Rattle.std.specs.Prelude.{Result, Ok, Err}
 use Rattle.calendar.specs.declared.date.CalendarDate.{CalendarDate}
-use Rattle.calendar.specs.Date.{date}
+use Rattle.calendar.specs.Date as calendar
 
 -- ---- bytes put at a place
 -- the last byte may be put first
@@ -53,6 +54,18 @@ module _ (s : List ℕ) (at n : ℕ) where
 
   pub first_digit : n ≤ 9 → set s at (digit n) ≡ sets s at (numeral n)
   first_digit h = rw (one_digit n h)
+
+-- whether digits are left, by how many there are
+pub digits_left : (n : ℕ) → 2 ≤ length (numeral n) → 10 ≤ n
+digits_left n some =
+    elim (dec_lt 9 n) [ yes large ↦ omega arith | no small ↦ let one = ap length (one_digit n (omega arith)) in absurd (omega arith) ]
+
+pub digit_left : (n : ℕ) → n ≤ 18446744073709551616 → length (numeral n) ≤ 1 → n ≤ 9
+digit_left n high few =
+    elim (dec_lt 9 n) [
+      | yes large ↦ let more = more_length n (omega arith) high in let rest = (numeral_length (n / 10)).0 in absurd (omega arith)
+      | no small ↦ omega arith
+    ]
 
 -- ---- what is put step by step
 module _ {s : List ℕ} {i : ℕ} {v b : List ℕ} {r : ℕ} (p : Put s i v b r) where
@@ -135,11 +148,8 @@ module _ (s : Style) (n : ℕ) (before : List ℕ) where
   too_short h = rw (lt-leb 12 (length before) h) (refl, refl)
 
   module _ (room : 12 ≤ length before) where
-    pub outside : (x : Refusal) → within (dates_by s) n ≡ Err x → WritesInStyle before before (Err x) s n
-    unfolding within
-    outside x e =
-        let out = refused_by (in_span (dates_by s) n) Span x n e in
-        rw (le-leb 12 (length before) room, out.0) (ap Err out.1, refl)
+    pub outside : (x : Refusal) → x ≡ Span → in_span (dates_by s) n ≡ false → WritesInStyle before before (Err x) s n
+    outside x e out = rw (le-leb 12 (length before) room, out) (ap Err e, refl)
 
     pub written : (after : List ℕ) (r : ℕ) → in_span (dates_by s) n ≡ true → PutsDate s n 0 before after r → WritesInStyle before after (Ok r) s n
     written after r i h =
@@ -158,10 +168,10 @@ one_text s n v w p q =
     p.text ∙ ap text same ∙ sym q.text
   where
     on : {w : List ℕ} → IsDateText s n w → Result CalendarDate Refusal
-    on t = On t.year t.month t.day
+    on t = Ok (calendar.date t.year t.month t.day)
 
     text : Result CalendarDate Refusal → List ℕ
-    text (Ok (date y m d)) = date_text (named s y) m d
+    text (Ok t) = date_text (named s t.year) t.month t.day
     text (Err x) = []
 
 -- the line of the grammar that a written date is

@@ -19,25 +19,25 @@ may c = record {
 pub returns-then-anchor-lt3 : goal.returns-then-anchor-lt3
 returns-then-anchor-lt3 c = too_short _ _ c.if-anchor-lt3.true
 
-pub returns-then-feast-eq0 : goal.returns-then-feast-eq0
-returns-then-feast-eq0 c = no_feast _ _ _ c.feast_of_word-feast.ensures c.if-anchor-gt57.true c.if-feast-eq0.true
+pub returns-in_default : goal.returns-in_default
+returns-in_default c = no_feast _ _ c.in_default.ensures c.if-anchor-gt57.true
 
 pub returns-then-anchor-gt57 : goal.returns-then-anchor-gt57
-returns-then-anchor-gt57 c = rw c.feast_in_year.ensures (feast_told _ _ _ c.feast_of_word-feast.ensures (omega arith))
+returns-then-anchor-gt57 c = rw c.feast_in_year.ensures (feast_told _ _ _ c.in-Some.ensures)
 
 pub returns-then-anchor-end-ne46 : goal.returns-then-anchor-end-ne46
 returns-then-anchor-end-ne46 c = no_point _ _ _ (may (goal.at.returns-then-anchor-end-ne46 c).Joined-anchor-eq46) c.if-anchor-end-ne46.true
 
-pub returns-then-day-eq0 : goal.returns-then-day-eq0
-returns-then-day-eq0 c = no_day _ _ _ (may (goal.at.returns-then-day-eq0 c).Joined-anchor-eq46) _ c.short_number_of-day.ensures c.if-day-eq0.true
+pub returns-in_default-short_number_of : goal.returns-in_default-short_number_of
+returns-in_default-short_number_of c =
+    no_day _ _ _ (may (goal.at.returns-in_default-short_number_of c).Joined-anchor-eq46) c.in_default-short_number_of.ensures
 
-pub returns-then-month-eq0 : goal.returns-then-month-eq0
-returns-then-month-eq0 c =
-    no_month _ _ _ (may (goal.at.returns-then-month-eq0 c).Joined-anchor-eq46) _
-    (rw (rest _ _) at c.short_number_of-month.ensures) c.if-month-eq0.true
+pub returns-in_default-short_number_of-2 : goal.returns-in_default-short_number_of-2
+returns-in_default-short_number_of-2 c =
+    no_month _ _ _ (may (goal.at.returns-in_default-short_number_of-2 c).Joined-anchor-eq46) (rw (rest _ _) at c.in_default-short_number_of-2.ensures)
 
 pub returns : goal.returns
 returns c =
     rw c.day_in_year.ensures
-    (date_told _ _ _ (may (goal.at.returns c).Joined-anchor-eq46) _ _ c.if-anchor-end-ne46.false c.short_number_of-day.ensures (omega arith)
-    (rw (rest _ _) at c.short_number_of-month.ensures) (omega arith))
+    (date_told _ _ _ (may (goal.at.returns c).Joined-anchor-eq46) _ _ c.if-anchor-end-ne46.false c.in-Some-short_number_of.ensures
+    (rw (rest _ _) at c.in-Some-short_number_of-2.ensures))

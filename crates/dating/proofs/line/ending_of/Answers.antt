@@ -1,33 +1,23 @@
-use mathlib.Core.Bool.{true}
-use mathlib.Core.Path.{◌≡◌, sym, ◌∙◌}
-use Prim.Native.Nat.{◌-◌}
+use mathlib.Core.Path.{sym, ◌∙◌}
 use native.Mathlib.Omega.{arith}
-use lib.ListN.{length, get_or}
 use Rattle.words.proofs.text.Laws.{rest}
 use Rattle.dating.proofs.line.Laws.{no_year_space, no_year, ending_told, four_told}
-use Rattle.dating.specs.Steps.{is_style_letter}
 use Rattle.dating.proofs.line.ending_of.Goals as goal
-use Rattle.dating.proofs.line.ending_of.Goals.{Else-not-is_style_letter}
 
-letter : (c : Else-not-is_style_letter)
-    → let s = c.args.line.now in
-    is_style_letter (get_or s (length s - 1) 0) ≡ true
-letter c = sym c.is_style_letter.ensures ∙ c.if-not-is_style_letter.false
-
-pub returns-then-year-gt0 : goal.returns-then-year-gt0
-returns-then-year-gt0 c =
-    rw c.style_of_letter-style.ensures
-    (four_told _ _ c.four_digits-year.ensures (omega arith) (omega arith) c.if-line-length-eq32.true c.if-line-length-ne32.false
-    (letter (goal.at.returns-then-year-gt0 c).Else-not-is_style_letter))
+pub returns-in-Some : goal.returns-in-Some
+returns-in-Some c =
+    rw c.from.ensures
+    (four_told _ _ _ c.in-Some.ensures (omega arith) c.if-line-length-eq32.true c.if-line-length-ne32.false
+    (sym c.style_of_letter.ensures ∙ c.in_ok-style.was))
 
 pub returns-then-start-eq0 : goal.returns-then-start-eq0
 returns-then-start-eq0 c = no_year_space _ _ c.behind_last-start.ensures c.if-start-eq0.true
 
-pub returns-then-year-eq0 : goal.returns-then-year-eq0
-returns-then-year-eq0 c = no_year _ _ c.behind_last-start.ensures _ (rw (rest _ _) at c.number_of-year.ensures) c.if-year-eq0.true
+pub returns-in_err-year : goal.returns-in_err-year
+returns-in_err-year c =
+    rw c.from_residual-in_err-year.ensures (no_year _ _ c.behind_last-start.ensures (rw (rest _ _) at c.in_err-year.ensures))
 
 pub returns : goal.returns
 returns c =
-    rw c.style_of_letter-style.ensures
-    (ending_told _ _ c.behind_last-start.ensures _ (rw (rest _ _) at c.number_of-year.ensures)
-    c.if-length-lt2.false c.if-line-length-ne32.false (letter (goal.at.returns c).Else-not-is_style_letter) (omega arith) (omega arith))
+    ending_told _ _ c.behind_last-start.ensures _ _ (rw (rest _ _) at c.in_ok-year.ensures) (omega arith) c.if-line-length-ne32.false
+    (sym c.style_of_letter.ensures ∙ c.in_ok-style.was) (omega arith)

@@ -1,19 +1,14 @@
-use mathlib.Core.Path.{sym, ◌∙◌}
-use native.Mathlib.Omega.{arith}
-use Rattle.calendar.proofs.span.Laws.{answered_span}
+use Rattle.std.proofs.lemmas.Result.{err_from_is_err_and}
 use Rattle.dating.proofs.writer.Laws.{outside, written}
 use Rattle.dating.proofs.writer.write_in_style.Goals as goal
 
-pub put_day-requires : goal.put_day-requires
-put_day-requires c =
-    (omega (arith, c.if-buffer-lt12.false), rw (← c.dates_by.ensures) (answered_span _ _ _ (sym c.day_within.ensures ∙ c.in-Ok.is)).0)
+pub returns-in_err-day : goal.returns-in_err-day
+returns-in_err-day c =
+    let p = err_from_is_err_and c.from_residual.result c.from_residual.ensures.1 in
+    let e = c.in_err-day.ensures in
+    rw (p.1, p.2) (outside _ _ _ c.if-buffer-lt12.false _ e.0 e.1)
 
-pub returns-in-Ok : goal.returns-in-Ok
-returns-in-Ok c =
-    written _ _ _ c.if-buffer-lt12.false _ _
-    (rw (← c.dates_by.ensures) (answered_span _ _ _ (sym c.day_within.ensures ∙ c.in-Ok.is)).0) c.put_day.ensures
-
-pub returns-in-Err : goal.returns-in-Err
-returns-in-Err c =
-    let a = c.args in
-    outside a.style _ a.buffer.now c.if-buffer-lt12.false _ (rw (← c.dates_by.ensures) (sym c.day_within.ensures ∙ c.in-Err.is))
+pub returns : goal.returns
+returns c =
+    let e = c.in_ok-day.ensures in
+    written _ _ _ c.if-buffer-lt12.false _ _ (rw (e.0, e.1) at c.in_ok-day.day.in_span) (rw (e.0, e.1) at c.put_day.ensures)
