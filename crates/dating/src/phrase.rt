@@ -27,9 +27,9 @@ pub(crate) fn phrase_in_year(phrase: &[u8], style: Style, year: u64) -> Result<u
         return Ok(day);
     };
     let rest = &phrase[lead.length..];
-    let answer = phrase_in_year(rest, style, year);
-    let Ok(day) = answer else {
-        return answer;
+    let inner = phrase_in_year(rest, style, year);
+    let Ok(day) = inner else {
+        return inner;
     };
     act(lead.wrapper, style.dates_by(), day)
 }
