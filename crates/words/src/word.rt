@@ -11,6 +11,7 @@ use crate::text::is_word;
 const FEAST: u64 = 1 << 40;
 
 // The first four and the last four bytes of the word in a slot, as one number.
+// An empty slot's 0 is told by no bytes of a word, so it needs no case of its own.
 #[tactic(auto, unfolding(crate::specs::Steps::four, crate::specs::Steps::held), using(crate::proofs::word::Laws::no_feast))]
 fn outer_in(slot: usize) -> u64
     ensures { result ≡ outer_in feast_slot feast_word 48 slot }

@@ -8,7 +8,7 @@ ghost use Rattle.words.specs.Wrapper.{leadings, lead};
 use crate::text::{HIGHER, four_at, joined};
 use calendar::weekday::{Side, Start};
 
-// What stands before a phrase and moves its day, as the definitions have it; the code goes by numbers.
+// What stands before a phrase and moves its day.
 #[derive(Clone, Copy, PartialEq, Eq)]
 pub enum Wrapper {
     Eve,
@@ -99,7 +99,7 @@ fn count_by(middle: u64) -> usize
 }
 
 // Whether a wrapper may begin a phrase: a shortcut for phrases as short as a feast word, which have at most 12 bytes.
-#[tactic(auto, unfolding(crate::specs::Steps::four), using(crate::proofs::wrapper::Laws::not_led))]
+#[tactic(auto, unfolding(crate::specs::Steps::four), using(crate::proofs::wrapper::Laws::not_led, crate::proofs::wrapper::Laws::long_enough))]
 fn may_lead(phrase: &[u8]) -> bool
     ensures { MayLead phrase.now result }
 {
@@ -128,6 +128,7 @@ fn eight_of(phrase: &[u8]) -> u64
 }
 
 // How many bytes more than count_by tells a wrapper's words have, by these eight: 6 for "on or after", 7 for "on or before", which is longer by one; else 0.
+// That is a count as these are, which is added without a test, so an Option would be no plainer.
 #[tactic(auto, unfolding(crate::specs::Steps::four))]
 fn more_by(eight: u64) -> usize
     ensures { result ≡ more_by eight }

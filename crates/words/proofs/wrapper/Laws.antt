@@ -19,7 +19,7 @@ use Rattle.words.proofs.text.Laws.{within}
 use Rattle.std.specs.Prelude.{Option, Some, None}
 use Rattle.calendar.specs.Range.{between}
 use Rattle.words.specs.Steps.{four, outer_of, held, outer_for, wrapper_slot, bare_number, bare_words, middle_for, wrapper_outer, wrapper_middle}
-use Rattle.words.specs.Steps.{wrapper_of, Wordless, count_by, eight_at, eight_of, more_by, LeadTold}
+use Rattle.words.specs.Steps.{wrapper_of, Wordless, MayLead, count_by, eight_at, eight_of, more_by, LeadTold}
 use Rattle.words.specs.Text.{bytes, space, has}
 use Rattle.words.specs.Told.{Told, produced, unproduced}
 use Rattle.words.specs.Wrapper.{weekday_word, start_words, wrapper_words, GoodWrapper, leadings, lead}
@@ -166,6 +166,13 @@ module _ (w : Wrapper) (g : GoodWrapper w) (t : List ℕ) {s : List ℕ} (e : wr
   slotted =
       let f = facts w g in
       rw (its_byte 1 (omega (arith, there)), its_byte 2 (omega (arith, there)), its_byte (4 + if_on_or (more_of w) 6) (omega (arith, f.long))) f.slot
+
+pub long_enough : (s : List ℕ) → MayLead s (ltb 6 (length s))
+long_enough s =
+    elim (dec_lt 6 (length s)) [
+      | yes h ↦ rw (lt-ltb 6 (length s) h) h
+      | no h ↦ rw (le-ltb 6 (length s) (omega arith)) (λ w g t e. omega (arith, there w g t e))
+    ]
 
 pub not_led : (s : List ℕ) → (get_or s 3 0 ≡ space → ⊥) → (four s 0 ≡ four (bytes "morr") 0 → ⊥) → (four s 0 ≡ four (bytes "octa") 0 → ⊥) → Wordless s
 unfolding four
