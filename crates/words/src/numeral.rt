@@ -17,10 +17,7 @@ fn digit_value(byte: u8) -> Option<u32>
 fn first_digit(byte: u8) -> Option<u32>
     ensures { SomeIff result ((digit 1 ≤ byte) × (byte ≤ digit 9)) (byte - digit 0) }
 {
-    match byte {
-        b'1'..=b'9' => Some(u32::from(byte - b'0')),
-        _ => None,
-    }
+    digit_value(byte).filter(|&value| value > 0)
 }
 
 // The number from 1 to high, of at most four digits, whose numeral the bytes are.

@@ -3,26 +3,23 @@ ghost use Rattle.std.specs.Prelude.{◌&&◌, ◌≡◌, ◌+◌, ◌*◌, ◌�
 ghost use Rattle.words.specs.Steps.{four, outer_of, inner_of};
 ghost use Rattle.words.specs.Text.{BehindLast};
 
-// Four bytes as a number, the first the lowest.
-pub fn pack4(a: u8, b: u8, c: u8, d: u8) -> u32
-    ensures { result ≡ a + 256 * b + 65536 * c + 16777216 * d }
-{
-    a as u32 + 256 * b as u32 + 65536 * c as u32 + 16777216 * d as u32
-}
+// What the higher of two fours in one number is multiplied by.
+pub(crate) const HIGHER: u64 = 1 << 32;
 
-// Two such numbers as one.
-pub fn pack8(low: u32, high: u32) -> u64
-    ensures { result ≡ low + 4294967296 * high }
-{
-    low as u64 + 4294967296 * high as u64
-}
-
-// The four bytes from a place on.
+// The four bytes from a place on as one number, the first the lowest.
+#[tactic(auto, unfolding(crate::specs::Steps::four))]
 pub(crate) fn four_at(text: &[u8], at: usize) -> u32
     requires { at + 4 ≤ length text.now }
     ensures { result ≡ four text.now at }
 {
-    pack4(text[at], text[at + 1], text[at + 2], text[at + 3])
+    u32::from_le_bytes([text[at], text[at + 1], text[at + 2], text[at + 3]])
+}
+
+// Two such numbers as one.
+pub(crate) fn joined(low: u32, high: u32) -> u64
+    ensures { result ≡ low + 4294967296 * high }
+{
+    u64::from(low) + HIGHER * u64::from(high)
 }
 
 // Whether the first so many bytes, 4 to 12, are the word with these two numbers: first and last four, and the middle four with their count.
@@ -30,10 +27,8 @@ pub(crate) fn is_word(text: &[u8], count: usize, outer: u64, inner: u64) -> bool
     requires { (4 ≤ count) × (count ≤ 12) × (count ≤ length text.now) }
     ensures { result ≡ (eqb (outer_of text.now count) outer && eqb (inner_of text.now count) inner) }
 {
-    if pack8(four_at(text, 0), four_at(text, count - 4)) != outer {
-        return false;
-    }
-    pack8(four_at(text, (count - 4) / 2), count as u32) == inner
+    joined(four_at(text, 0), four_at(text, count - 4)) == outer
+        && joined(four_at(text, (count - 4) / 2), count as u32) == inner
 }
 
 // The place behind the last such byte, or the start where there is none.

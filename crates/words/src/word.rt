@@ -11,7 +11,8 @@ use crate::text::is_word;
 const FEAST: u64 = 1 << 40;
 
 // The first four and the last four bytes of the word in a slot, as one number.
-#[tactic(auto, unfolding(crate::specs::Steps::four, crate::specs::Steps::held))]
+// An empty slot's 0 is told by no bytes of a word, so it needs no case of its own.
+#[tactic(auto, unfolding(crate::specs::Steps::four, crate::specs::Steps::held), using(crate::proofs::word::Laws::no_feast))]
 fn outer_in(slot: usize) -> u64
     ensures { result ≡ outer_in feast_slot feast_word 48 slot }
 {
@@ -69,7 +70,7 @@ fn outer_in(slot: usize) -> u64
 }
 
 // The four bytes in the middle of the word in a slot, 2^32 times its length and 2^40 times the number of its feast, as one number; 0 where there is none.
-#[tactic(auto, unfolding(crate::specs::Steps::four, crate::specs::Steps::held))]
+#[tactic(auto, unfolding(crate::specs::Steps::four, crate::specs::Steps::held), using(crate::proofs::word::Laws::no_feast))]
 fn inner_in(slot: usize) -> u64
     ensures { result ≡ inner_in feast_slot feast_word 48 slot }
 {
@@ -131,7 +132,7 @@ fn slot(first: u8, third: u8, count: usize) -> usize
     requires { count ≤ 12 }
     ensures { result ≡ (35 * first + 10 * third + 16 * count) % 128 }
 {
-    (35 * first as usize + 10 * third as usize + 16 * count) % 128
+    (35 * usize::from(first) + 10 * usize::from(third) + 16 * count) % 128
 }
 
 // The number of the feast whose word it is.

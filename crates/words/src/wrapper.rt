@@ -5,13 +5,10 @@ ghost use Rattle.words.specs.Steps.{wrapper_outer, wrapper_middle, count_by, May
 ghost use Rattle.words.specs.Told.{Told};
 ghost use Rattle.words.specs.Wrapper.{leadings, lead};
 
-use crate::text::{four_at, pack8};
+use crate::text::{HIGHER, four_at, joined};
 use calendar::weekday::{Side, Start};
 
-// What a wrapper's number is multiplied by in middle_in.
-const WRAPPER: u64 = 1 << 32;
-
-// What stands before a phrase and moves its day, as the definitions have it; the code goes by numbers.
+// What stands before a phrase and moves its day.
 #[derive(Clone, Copy, PartialEq, Eq)]
 pub enum Wrapper {
     Eve,
@@ -29,7 +26,7 @@ pub struct Lead {
 }
 
 // The first four and the last four bytes of the words in a slot, as one number.
-#[tactic(auto, unfolding(crate::specs::Steps::four, crate::specs::Steps::held))]
+#[tactic(auto, unfolding(crate::specs::Steps::four, crate::specs::Steps::held), using(crate::proofs::wrapper::Laws::no_wrapper))]
 fn outer_in(slot: usize) -> u64
     ensures { result ≡ wrapper_outer slot }
 {
@@ -56,7 +53,7 @@ fn outer_in(slot: usize) -> u64
 }
 
 // The four bytes from the fourth on of the words in a slot, and 2^32 times the wrapper's number, as one number.
-#[tactic(auto, unfolding(crate::specs::Steps::four, crate::specs::Steps::held))]
+#[tactic(auto, unfolding(crate::specs::Steps::four, crate::specs::Steps::held), using(crate::proofs::wrapper::Laws::no_wrapper))]
 fn middle_in(slot: usize) -> u64
     ensures { result ≡ wrapper_middle slot }
 {
@@ -86,35 +83,35 @@ fn middle_in(slot: usize) -> u64
 fn slot(second: u8, third: u8, fifth: u8) -> usize
     ensures { result ≡ (2 * second + 4 * third + fifth) % 32 }
 {
-    (2 * second as usize + 4 * third as usize + fifth as usize) % 32
+    (2 * usize::from(second) + 4 * usize::from(third) + usize::from(fifth)) % 32
 }
 
 // How many bytes a wrapper's words have without "on or", by the four from the fourth on, so that the reading of what stands behind need not wait for a table.
+#[tactic(auto, unfolding(crate::specs::Steps::four))]
 fn count_by(middle: u64) -> usize
     ensures { result ≡ count_by middle }
 {
-    // " bef", and " of "
-    let count = if middle == 0x66656220 { 11 } else { 10 };
-    if middle == 0x20666f20 { 7 } else { count }
+    match middle {
+        0x20666f20 => 7, // " of "
+        0x66656220 => 11, // " bef"
+        _ => 10,
+    }
 }
 
 // Whether a wrapper may begin a phrase: a shortcut for phrases as short as a feast word, which have at most 12 bytes.
+#[tactic(auto, unfolding(crate::specs::Steps::four), using(crate::proofs::wrapper::Laws::not_led, crate::proofs::wrapper::Laws::long_enough))]
 fn may_lead(phrase: &[u8]) -> bool
     ensures { MayLead phrase.now result }
 {
     if phrase.len() > 12 {
         return true;
     }
-    if phrase.len() < 4 {
+    let [_, _, _, fourth, ..] = phrase else {
         return false;
-    }
-    if phrase[3] != b' ' {
-        // morr, and octa
-        if four_at(phrase, 0) != 0x72726f6d {
-            if four_at(phrase, 0) != 0x6174636f {
-                return false;
-            }
-        }
+    };
+    // morr, and octa
+    if *fourth != b' ' && four_at(phrase, 0) != 0x72726f6d && four_at(phrase, 0) != 0x6174636f {
+        return false;
     }
     phrase.len() > 6
 }
@@ -125,23 +122,22 @@ fn eight_of(phrase: &[u8]) -> u64
     ensures { result ≡ eight_of phrase.now }
 {
     if phrase.len() < 13 {
-        return four_at(phrase, 3) as u64;
+        return u64::from(four_at(phrase, 3));
     }
-    pack8(four_at(phrase, 3), four_at(phrase, 7))
+    joined(four_at(phrase, 3), four_at(phrase, 7))
 }
 
 // How many bytes more than count_by tells a wrapper's words have, by these eight: 6 for "on or after", 7 for "on or before", which is longer by one; else 0.
+// That is a count as these are, which is added without a test, so an Option would be no plainer.
+#[tactic(auto, unfolding(crate::specs::Steps::four))]
 fn more_by(eight: u64) -> usize
     ensures { result ≡ more_by eight }
 {
-    // " on or a", and " on or b"
-    if eight == 0x6120726f206e6f20 {
-        return 6;
+    match eight {
+        0x6120726f206e6f20 => 6, // " on or a"
+        0x6220726f206e6f20 => 7, // " on or b"
+        _ => 0,
     }
-    if eight == 0x6220726f206e6f20 {
-        return 7;
-    }
-    0
 }
 
 // The number where "on or" stands, and else 0.
@@ -182,15 +178,15 @@ fn lead_by(phrase: &[u8], more: usize, count: usize) -> Option<Lead>
 {
     let skip = if_counted(more, 6);
     let slot = slot(phrase[1], phrase[2], phrase[4 + skip]);
-    if pack8(four_at(phrase, 0), four_at(phrase, count - 4)) != outer_in(slot) {
+    if joined(four_at(phrase, 0), four_at(phrase, count - 4)) != outer_in(slot) {
         return None;
     }
     let told = middle_in(slot);
-    if told % WRAPPER != u64::from(four_at(phrase, 3 + skip)) {
+    if told % HIGHER != u64::from(four_at(phrase, 3 + skip)) {
         return None;
     }
     // Where the starting day counts, the number is by 16 greater.
-    let number = told / WRAPPER + if_counted(more, 16) as u64;
+    let number = told / HIGHER + if_counted(more, 16) as u64;
     Some(Lead {
         wrapper: wrapper_of(number),
         length: count,
@@ -206,7 +202,7 @@ pub fn lead_of(phrase: &[u8]) -> Option<Lead>
     }
     let eight = eight_of(phrase);
     let more = more_by(eight);
-    let count = count_by(eight % 4294967296) + more;
+    let count = count_by(eight % HIGHER) + more;
     if phrase.len() < count {
         return None;
     }

@@ -144,7 +144,11 @@ numeral_digits n low high =
 pub no_numeral : (high : ℕ) (s : List ℕ) → (YearDigits s → ⊥) → Told (numerals high) Some None s None
 no_numeral high s bad = unproduced (λ n g e. bad (subst YearDigits e (numeral_digits n g.0 (omega (arith, g))))) refl
 
-pub first_digit : {s : List ℕ} → YearDigits s → (digit 1 ≤ get_or s 0 0) × (get_or s 0 0 ≤ digit 9)
+-- a digit, from the one given on
+abbrev pub Digit : ℕ → ℕ → Type 0
+Digit least x = (digit least ≤ x) × (x ≤ digit 9)
+
+pub first_digit : {s : List ℕ} → YearDigits s → Digit 1 (get_or s 0 0)
 first_digit d = (omega (arith, d.first, d.digits 0 d.some), omega (arith, d.digits 0 d.some))
 
 -- the first i of at most four bytes s are the numeral of n
@@ -155,9 +159,9 @@ pub record Sofar (s : List ℕ) (n i : ℕ) : Type 0 where
   pub high : n ≤ 9999
   pub is : numeral n ≡ take i s
 
--- a byte is a digit from the one given on, and that is its value
+-- and its value
 abbrev pub Valued : ℕ → ℕ → ℕ → Type 0
-Valued least x d = ((digit least ≤ x) × (x ≤ digit 9)) × (d ≡ x - digit 0)
+Valued least x d = Digit least x × (d ≡ x - digit 0)
 
 pub begun : (s : List ℕ) {d : ℕ} → 1 ≤ length s → length s ≤ 4 → Valued 1 (get_or s 0 0) d → Sofar s d 1
 begun [] some few v = absurd (omega arith)
@@ -182,7 +186,7 @@ module _ {s : List ℕ} {n i : ℕ} (p : Sofar s n i) where
     pub whole : numeral n ≡ s
     whole = p.is ∙ take_all i s all
 
-    pub read : (top : ℕ) → n ≤ top → Told (numerals top) Some None s (Some n)
+    read : (top : ℕ) → n ≤ top → Told (numerals top) Some None s (Some n)
     read top h = produced n (p.low, omega (arith, p.high)) whole refl
 
     above : (top : ℕ) → top < n → Told (numerals top) Some None s None
@@ -197,20 +201,17 @@ module _ {s : List ℕ} {n i : ℕ} (p : Sofar s n i) where
           | no h ↦ rw (le-leb n high (omega arith)) (read top (fits (omega arith)))
         ]
 
-    pub short : n ≤ 99 → (high : ℕ) → Told (numerals (min high 99)) Some None s (then_some (leb n high) n)
-    short h high = up_to high (min high 99) (omega arith) (λ k. omega arith)
+    pub short : {m : ℕ} → m ≡ n → n ≤ 99 → (high : ℕ) → Told (numerals (min high 99)) Some None s (then_some (leb m high) m)
+    short e h high = rw e (up_to high (min high 99) (omega arith) (λ k. omega arith))
 
 pub too_many : (high : ℕ) (s : List ℕ) → 2 < length s → Told (numerals (min high 99)) Some None s None
 too_many high s h = unproduced (λ n g e. omega (arith, two_digits n (omega (arith, g)), ap length e)) refl
 
 -- what a slice from the second byte on holds
-pub behind_first : (s : List ℕ) (i : ℕ) → get_or (take (length s - 1) (drop 1 s)) i 0 ≡ get_or s (i + 1) 0
-behind_first s i = rw (rest 1 s, get_or_after_one) (ap (λ (k : ℕ). get_or s k 0) (omega arith))
+pub after_first : (s : List ℕ) (i : ℕ) → get_or (take (length s - 1) (drop 1 s)) i 0 ≡ get_or s (i + 1) 0
+after_first s i = rw (rest 1 s, get_or_after_one) (ap (λ (k : ℕ). get_or s k 0) (omega arith))
 
 -- four digits, the first not 0
-abbrev Digit : ℕ → ℕ → Type 0
-Digit least x = (digit least ≤ x) × (x ≤ digit 9)
-
 module _ (w x y z : ℕ) where
   pub no_four : (Digit 1 w × Digit 0 x × Digit 0 y × Digit 0 z → ⊥) → Told (numerals 9999) Some None (w ∷ x ∷ y ∷ z ∷ []) None
   no_four bad =
@@ -224,7 +225,7 @@ module _ (w x y z : ℕ) where
       let same : 1000 * i + 100 * j + 10 * k + l ≡ 10 * (10 * (10 * i + j) + k) + l = omega arith in
       rw same (read all (omega arith) 9999 all.high)
 
--- the first suc i of such digits are a numeral
+-- the first suc i of a year's digits are a numeral
 pub digits_read : {s : List ℕ} → YearDigits s → (i : ℕ) → i < length s → (n : ℕ) × Sofar s n (i + 1)
 digits_read {s} d zero h = (get_or s 0 0 - 48, begun s h d.few (first_digit d, refl))
 digits_read {s} d (suc i) h =

@@ -87,11 +87,11 @@ lacks_from c s i none =
     let l = length-drop i s in
     lacks c (drop i s) (λ k h e. none (i + k) (omega arith) (omega arith) (sym (get_or-drop i s k 0) ∙ e))
 
--- where a search from the end has found r, and n is the place behind it or the start
-pub behind : (c : ℕ) (s : List ℕ) (r : Option ℕ) {n : ℕ} → MatchOption r (n ≡ 0) (λ i. n ≡ i + 1)
+-- where a search from the end has found r, and n is the place after it or the start
+pub found_last : (c : ℕ) (s : List ℕ) (r : Option ℕ) {n : ℕ} → MatchOption r (n ≡ 0) (λ i. n ≡ i + 1)
     → MatchOption r (NoneFrom c s 0) (λ i. (i < length s) × (get_or s i 0 ≡ c) × NoneFrom c s (i + 1)) → BehindLast c s n
-behind c s None z none = rw z (record { inside = omega arith; behind = lacks_from c s 0 none; last = λ low. absurd (omega arith) })
-behind c s (Some i) {n} next found =
+found_last c s None z none = rw z (record { inside = omega arith; behind = lacks_from c s 0 none; last = λ low. absurd (omega arith) })
+found_last c s (Some i) {n} next found =
     let at : i ≡ n - 1 = omega arith in
     record { inside = omega (arith, found.0); behind = rw next (lacks_from c s (i + 1) found.2); last = λ low. rw at at found.1 }
 

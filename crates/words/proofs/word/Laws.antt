@@ -25,7 +25,7 @@ unfolding worded held within between
 all_worded = tt
 
 -- the slots of the words, the last first
-abbrev pub feast_keys : List ℕ
+abbrev feast_keys : List ℕ
 feast_keys =
     125 ∷ 124 ∷ 121 ∷ 111 ∷ 105 ∷ 104 ∷ 102 ∷ 101 ∷ 97 ∷ 95 ∷ 93 ∷ 89 ∷ 88 ∷ 87 ∷ 86 ∷ 84 ∷ 82 ∷ 79 ∷ 77 ∷ 75 ∷ 74 ∷ 70 ∷ 69 ∷ 63 ∷ 61
     ∷ 59 ∷ 54 ∷ 53 ∷ 51 ∷ 50 ∷ 49 ∷ 45 ∷ 44 ∷ 40 ∷ 38 ∷ 37 ∷ 35 ∷ 27 ∷ 21 ∷ 18 ∷ 16 ∷ 15 ∷ 13 ∷ 11 ∷ 10 ∷ 9 ∷ 8 ∷ 7 ∷ []

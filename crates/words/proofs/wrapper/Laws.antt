@@ -56,16 +56,16 @@ by_wrapper P p (First Uncounted Before d) g = each_at (λ d. P (First Uncounted 
 by_wrapper P p (First Counted After d) g = each_at (λ d. P (First Counted After d)) 7 p.5 d g
 by_wrapper P p (First Counted Before d) g = each_at (λ d. P (First Counted Before d)) 7 p.6 d g
 
-pub numbered : (w : Wrapper) → GoodWrapper w → wrapper_of (number_of w) ≡ w
+numbered : (w : Wrapper) → GoodWrapper w → wrapper_of (number_of w) ≡ w
 numbered = by_wrapper (λ w. wrapper_of (number_of w) ≡ w) (search depth 20)
 
 -- ---- the words without "on or" by their slot
-pub all_worded : T (each (λ k. every (worded wrapper_slot bare_words 17 32 (suc k))) 17)
+all_worded : T (each (λ k. every (worded wrapper_slot bare_words 17 32 (suc k))) 17)
 unfolding worded held within between
 all_worded = tt
 
 -- the slots of the words, the last first
-abbrev pub wrapper_keys : List ℕ
+abbrev wrapper_keys : List ℕ
 wrapper_keys = 31 ∷ 28 ∷ 27 ∷ 24 ∷ 23 ∷ 21 ∷ 20 ∷ 19 ∷ 15 ∷ 12 ∷ 10 ∷ 9 ∷ 6 ∷ 5 ∷ 4 ∷ 3 ∷ 0 ∷ []
 
 pub no_wrapper : (f : ℕ → ℕ) (i : ℕ) → Others wrapper_keys i → 0 ≡ held (λ k. wrapper_slot (bare_words k)) f 17 i
@@ -82,11 +82,11 @@ abbrev index_of : Wrapper → ℕ
 index_of w = cond (eqb (number_of w) 32) 17 (suc (number_of w % 16))
 
 -- n where "on or" stands, and else 0
-abbrev pub if_on_or : ℕ → ℕ → ℕ
+abbrev if_on_or : ℕ → ℕ → ℕ
 if_on_or more n = cond (eqb more 0) 0 n
 
 -- the slot where so many bytes are passed over
-abbrev pub slot_by : ℕ → List ℕ → ℕ
+abbrev slot_by : ℕ → List ℕ → ℕ
 slot_by skip s = (2 * get_or s 1 0 + 4 * get_or s 2 0 + get_or s (4 + skip) 0) % 32
 
 -- the eight bytes by which it is told
@@ -126,25 +126,8 @@ not_on_or : (e : ℕ) → (e % 4294967296 ≡ four (bytes " on ") 0 → ⊥) →
 unfolding four
 not_on_or = by_on_or (λ e m. (e % 4294967296 ≡ four (bytes " on ") 0 → ⊥) → m ≡ 0) (λ n. absurd (n refl)) (λ n. absurd (n refl)) (λ e n. refl)
 
-pub more_small : (e : ℕ) → more_by e ≤ 7
-more_small = by_on_or (λ e m. m ≤ 7) (omega arith) (omega arith) (λ e. omega arith)
-
-pub count_small : (m : ℕ) → (7 ≤ count_by m) × (count_by m ≤ 11)
-count_small m =
-    let small : ℕ → Type 0 = λ n. (7 ≤ n) × (n ≤ 11) in
-    by_test small (eqb m (four (bytes " of ") 0)) (λ _. omega arith) (λ _.
-    by_test small (eqb m (four (bytes " bef") 0)) (λ _. omega arith) (λ _. omega arith))
-
 few : (more n : ℕ) → if_on_or more n ≤ n
 few more n = by_test (λ k. k ≤ n) (eqb more 0) (λ _. omega arith) (λ _. omega arith)
-
--- what is passed over lies inside
-pub inside : (s : List ℕ) {more l : ℕ} → LeadTold s more l → l ≤ length s
-    → (7 ≤ l) × (if_on_or more 6 + 7 ≤ length s) × ((n : ℕ) → if_on_or more n ≤ n)
-inside s {more} h room =
-    let c = count_small (eight_of s % 4294967296) in
-    let skip : if_on_or more 6 ≤ more = rw h.more_told (by_on_or (λ e m. if_on_or m 6 ≤ m) (omega arith) (omega arith) (λ e. omega arith) (eight_of s)) in
-    (omega (arith, h.count_told), omega (arith, h.count_told), few more)
 
 low_four : (s : List ℕ) → four s 3 < 4294967296 → eight_of s % 4294967296 ≡ four s 3
 low_four s h = by_test (λ e. e % 4294967296 ≡ four s 3) (ltb (length s) 13) (λ _. omega arith) (λ _. omega arith)
@@ -184,14 +167,11 @@ module _ (w : Wrapper) (g : GoodWrapper w) (t : List ℕ) {s : List ℕ} (e : wr
       let f = facts w g in
       rw (its_byte 1 (omega (arith, there)), its_byte 2 (omega (arith, there)), its_byte (4 + if_on_or (more_of w) 6) (omega (arith, f.long))) f.slot
 
-pub too_short : (s : List ℕ) → length s < 7 → Wordless s
-too_short s h w g t e = omega (arith, there w g t e)
-
 pub long_enough : (s : List ℕ) → MayLead s (ltb 6 (length s))
 long_enough s =
     elim (dec_lt 6 (length s)) [
       | yes h ↦ rw (lt-ltb 6 (length s) h) h
-      | no h ↦ rw (le-ltb 6 (length s) (omega arith)) (too_short s (omega arith))
+      | no h ↦ rw (le-ltb 6 (length s) (omega arith)) (λ w g t e. omega (arith, there w g t e))
     ]
 
 pub not_led : (s : List ℕ) → (get_or s 3 0 ≡ space → ⊥) → (four s 0 ≡ four (bytes "morr") 0 → ⊥) → (four s 0 ≡ four (bytes "octa") 0 → ⊥) → Wordless s
@@ -211,11 +191,8 @@ spaced Octave = (bytes "octave of", refl)
 spaced (First c After d) = (weekday_word d ++ (start_words c ++ bytes " after"), simp append_assoc)
 spaced (First c Before d) = (weekday_word d ++ (start_words c ++ bytes " before"), simp append_assoc)
 
-pub words_some : (w : Wrapper) → 1 ≤ length (wrapper_words w)
-words_some w = let l = ap length (spaced w).1 ∙ length-append (spaced w).0 (space ∷ []) in omega arith
-
 -- ---- what a phrase begins with
-pub plain : {s : List ℕ} → Wordless s → Leads s None
+plain : {s : List ℕ} → Wordless s → Leads s None
 plain none = unproduced (λ x good e. none x.wrapper good x.rest e) refl
 
 pub no_space : (s : List ℕ) {more l : ℕ} → LeadTold s more l → length s < l → Leads s None

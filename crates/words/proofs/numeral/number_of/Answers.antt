@@ -1,6 +1,6 @@
 use Prim.Native.Nat.{◌+◌}
 use native.Mathlib.Omega.{arith}
-use Rattle.words.proofs.numeral.Laws.{no_numeral, first_digit, begun, longer, up_to, behind_first}
+use Rattle.words.proofs.numeral.Laws.{no_numeral, first_digit, begun, longer, up_to, after_first}
 use Rattle.words.proofs.numeral.number_of.Goals as goal
 
 pub returns-in_default : goal.returns-in_default
@@ -15,19 +15,13 @@ returns-in_err-first_digit c = rw c.from_residual.ensures (no_numeral _ _ (λ l.
 pub loop-byte-init : goal.loop-byte-init
 loop-byte-init c = rw c.from-n.ensures (begun _ c.in-len1-up.len_at_least (omega arith) c.in_ok-first_digit.ensures)
 
-pub overflow_mul-n : goal.overflow_mul-n
-overflow_mul-n c = omega (arith, c.loop-byte.invariant)
-
 pub returns-in_err-digit_value : goal.returns-in_err-digit_value
 returns-in_err-digit_value c =
     rw c.from_residual-in_err-digit_value.ensures
-    (no_numeral _ _ (λ l. (rw behind_first at c.in_err-digit_value.ensures) (l.digits (c.loop-byte.byte-index + 1) (omega arith))))
-
-pub overflow_add-n : goal.overflow_add-n
-overflow_add-n c = omega (arith, c.loop-byte.invariant, c.in_ok-digit_value.ensures)
+    (no_numeral _ _ (λ l. (rw after_first at c.in_err-digit_value.ensures) (l.digits (c.loop-byte.byte-index + 1) (omega arith))))
 
 pub loop-byte-preserved : goal.loop-byte-preserved
-loop-byte-preserved c = rw c.from.ensures (longer c.loop-byte.invariant (omega arith) (rw behind_first at c.in_ok-digit_value.ensures))
+loop-byte-preserved c = rw c.from.ensures (longer c.loop-byte.invariant (omega arith) (rw after_first at c.in_ok-digit_value.ensures))
 
 pub returns : goal.returns
 returns c = rw c.then_some.ensures (up_to c.loop-byte.invariant (omega arith) _ _ (omega arith) (λ h. h))

@@ -1,3 +1,4 @@
+use mathlib.Core.Path.{◌∙◌}
 use native.Mathlib.Omega.{arith}
 use Rattle.words.proofs.numeral.Laws.{no_numeral, too_many, first_digit, begun, longer, short}
 use Rattle.words.proofs.numeral.short_number_of.Goals as goal
@@ -23,13 +24,17 @@ returns-in_default-2 c = too_many _ _ (omega arith)
 
 pub returns : goal.returns
 returns c =
-    rw (c.then_some.ensures, c.from-n.ensures)
+    rw c.then_some.ensures
     (elim c.if-text-lt2.branch [
       | in-len1+in_ok-n-in-len1 w ↦
-          let one = begun c.args.text.now w.in-len1.len_at_least (omega (arith, w.in-len1.len_below)) w.in_ok-n-in-len1.ensures in
-          rw w.n-is (short one (omega (arith, w.in-len1.len_below)) (omega (arith, w.in_ok-n-in-len1.ensures)) _)
+          let some = w.in-len1.len_at_least in
+          let few = w.in-len1.len_below in
+          let one = begun c.args.text.now some (omega arith) w.in_ok-n-in-len1.ensures in
+          short one (omega arith) (c.from-n.ensures ∙ w.n-is) (omega (arith, w.in_ok-n-in-len1.ensures)) _
       | in-len2+in_ok-first_digit-in-len2+in_ok-n-in-len2 w ↦
-          let one = begun c.args.text.now (omega (arith, w.in-len2.len_at_least)) (omega (arith, w.in-len2.len_below)) w.in_ok-first_digit-in-len2.ensures in
-          let two = longer one (omega (arith, w.in-len2.len_at_least)) w.in_ok-n-in-len2.ensures in
-          rw w.n-is (short two (omega (arith, w.in-len2.len_below)) (omega (arith, w.in_ok-first_digit-in-len2.ensures, w.in_ok-n-in-len2.ensures)) _)
+          let some = w.in-len2.len_at_least in
+          let few = w.in-len2.len_below in
+          let one = begun c.args.text.now (omega arith) (omega arith) w.in_ok-first_digit-in-len2.ensures in
+          let two = longer one (omega arith) w.in_ok-n-in-len2.ensures in
+          short two (omega arith) (c.from-n.ensures ∙ w.n-is) (omega (arith, w.in_ok-first_digit-in-len2.ensures, w.in_ok-n-in-len2.ensures)) _
     ])

@@ -10,21 +10,21 @@ use Rattle.words.proofs.wrapper.lead_by.Goals.{After-outer_in}
 -- the first and the last four bytes as one number
 ends : (c : After-outer_in)
     → let a = c.args in
-    c.pack8.result ≡ four a.phrase.now 0 + 4294967296 * four a.phrase.now (a.count - 4)
-ends c = c.pack8.ensures ∙ rw (c.four_at.ensures, c.four_at-2.ensures)
+    c.joined.result ≡ four a.phrase.now 0 + 4294967296 * four a.phrase.now (a.count - 4)
+ends c = c.joined.ensures ∙ rw (c.four_at.ensures, c.four_at-2.ensures)
 
 -- where one of the two comparisons fails
 fails : (c : After-outer_in) {m : ℕ}
     → let s = c.args.phrase.now in
     m ≡ wrapper_middle c.slot-slot.result
-    → (c.pack8.result ≡ c.outer_in.result → m % 4294967296 ≡ four s (3 + c.if_counted-skip.result) → ⊥)
+    → (c.joined.result ≡ c.outer_in.result → m % 4294967296 ≡ four s (3 + c.if_counted-skip.result) → ⊥)
     → Leads s None
 fails c hm no_match =
     not_these c.args.phrase.now c.requires.0 c.if_counted-skip.ensures c.slot-slot.ensures c.outer_in.ensures hm
     (λ eo em. no_match (ends c ∙ eo) em)
 
-pub returns-then-pack8-outer_in : goal.returns-then-pack8-outer_in
-returns-then-pack8-outer_in c = fails (goal.at.returns-then-pack8-outer_in c).After-outer_in refl (λ eo em. c.if-pack8-outer_in.true eo)
+pub returns-then-joined-outer_in : goal.returns-then-joined-outer_in
+returns-then-joined-outer_in c = fails (goal.at.returns-then-joined-outer_in c).After-outer_in refl (λ eo em. c.if-joined-outer_in.true eo)
 
 pub returns-then-told-from : goal.returns-then-told-from
 returns-then-told-from c =
@@ -35,5 +35,5 @@ pub returns : goal.returns
 returns c =
     rw c.wrapper_of.ensures
     (these_words c.args.phrase.now c.requires.0 c.if_counted-skip.ensures c.slot-slot.ensures c.outer_in.ensures c.middle_in-told.ensures
-    (λ i. omega (arith, c.type_inv.phrase i)) c.requires.1 (sym (ends (goal.at.returns c).After-outer_in) ∙ c.if-pack8-outer_in.false)
+    (λ i. omega (arith, c.type_inv.phrase i)) c.requires.1 (sym (ends (goal.at.returns c).After-outer_in) ∙ c.if-joined-outer_in.false)
     (c.if-told-from.false ∙ c.from.ensures ∙ c.four_at-3.ensures) c.if_counted.ensures)
