@@ -36,16 +36,3 @@ from_1 f n t k r =
 pub of_both : (f : Bool → ℕ → Bool) (n : ℕ) → T (each (λ k. f true k && f false k) n) → (b : Bool) (k : ℕ) → k < n → T (f b k)
 of_both f n t true k h = (T-both (f true k) (f false k) (below (λ k. f true k && f false k) n t k h)).0
 of_both f n t false k h = (T-both (f true k) (f false k) (below (λ k. f true k && f false k) n t k h)).1
-
--- n is none of the numbers from 1 to k, as the last arm of a match has it
-abbrev pub NoneTo : ℕ → ℕ → Type 0
-NoneTo n zero = Unit
-NoneTo n (suc k) = NoneTo n k × (n ≡ suc k → ⊥)
-
--- so of one number more it is the last
-pub last_left : (n k : ℕ) → (1 ≤ n) × (n ≤ suc k) → NoneTo n k → n ≡ suc k
-last_left n k h none = omega (arith, h, past k none)
-  where
-    past : (j : ℕ) → NoneTo n j → j < n
-    past zero none = h.0
-    past (suc j) none = omega (arith, past j none.0, none.1)

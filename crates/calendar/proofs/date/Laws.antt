@@ -51,9 +51,6 @@ has_day c n y m d i h = rw (year_served_lem c n y i (year_of c n y m d h), bound
 pub day_date : (c : Calendar) (n y m d : ℕ) → day_in_calendar c y m d ≡ Ok n → IsDateInCalendar c n (Ok (date y m d))
 day_date c n y m d e = rw (dated c n y m d e).0 e
 
-pub date_day : (c : Calendar) (n : ℕ) (r : Result CalendarDate Refusal) → in_span c n ≡ true → IsDateInCalendar c n r → IsDateOf c n r
-date_day c n r i h = rw i at h
-
 one_of : (c : Calendar) (n : ℕ) (a b : Result CalendarDate Refusal) → IsDateOf c n a → IsDateOf c n b → a ≡ b
 one_of c n (Ok t) (Ok t') p q =
     ap Ok (one_date c n t.year t.month t.day t'.year t'.month t'.day (dated c n t.year t.month t.day p).1 (dated c n t'.year t'.month t'.day q).1)

@@ -2,16 +2,11 @@
 use mathlib.Core.Bool.{Bool, true, false, cond}
 use mathlib.Core.Path.{◌≡◌, refl, ◌∙◌, ap}
 use Prim.Native.Nat.{ℕ, zero, suc, ◌+◌, ◌-◌, ◌≤◌}
-use native.Mathlib.Nat.{le_refl}
 use native.Mathlib.Omega.{arith}
 use lib.Dec.{ltb}
 use lib.IntN.{ℤ, pos, negsuc, nat_abs, -ℤ-+ℤ_cancel, +ℤ_idl, +ℤ_invr}
-use lib.Signed.{mag}
-use mir.Syntax.{w32}
-use mir.Val.{SFits}
 use borrow.Author.Tests.{ltb-true}
 use Rattle.calendar.specs.Distance.{distance, distance_of_days}
-use Rattle.calendar.specs.Span.{latest}
 use Rattle.std.specs.Prelude.{Result, Ok, Err}
 use Rattle.calendar.specs.declared.refusal.Refusal.{Refusal}
 
@@ -23,10 +18,6 @@ size a b k false e h g = omega arith
 pub distance_size : (a b k : ℕ) → a ≤ b + k → b ≤ a + k → nat_abs (distance a b) ≤ k
 distance_size zero b k h g = omega arith
 distance_size (suc a) b k h g = size (suc a) b k (ltb b (suc a)) refl h g
-
-mag_small : (z : ℤ) → mag z ≤ nat_abs z
-mag_small (pos n) = le_refl n
-mag_small (negsuc n) = omega arith
 
 -- a distance has two days
 pub both_days : (p q : Result ℕ Refusal) (z : ℤ) → distance_of_days p q ≡ Ok z
@@ -44,8 +35,3 @@ zero_same_day p q e =
 
 pub same_day_zero : (n : ℕ) → distance_of_days (Ok n) (Ok n) ≡ Ok (pos 0)
 same_day_zero n = ap Ok (+ℤ_invr (pos n))
-
--- a distance of days fits 32 bits
-pub distance_fits : (a b : ℕ) → a ≤ latest → b ≤ latest → SFits w32 (distance a b)
-distance_fits a b h g =
-    record { sfits = omega (arith, mag_small (distance a b), distance_size a b latest (omega arith) (omega arith)) }

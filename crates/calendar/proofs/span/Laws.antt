@@ -4,13 +4,11 @@ use mathlib.Core.Path.{◌≡◌}
 use Prim.Native.Nat.{ℕ, suc, ◌+◌, ◌≤◌, ◌<◌}
 use native.Mathlib.Omega.{arith}
 use Rattle.calendar.proofs.range.Laws.{range, in_range}
-use Rattle.calendar.proofs.refusal.Laws.{passed}
 use Rattle.calendar.proofs.year.Laws.{new_year_closed, new_year_rises, year_not_after}
-use Rattle.calendar.specs.Span.{first_day, last_day, earliest, latest, in_span, span_tests, within}
+use Rattle.calendar.specs.Span.{first_day, last_day, earliest, latest, in_span}
 use Rattle.calendar.specs.Year.{new_year, YearOf, first_year, served}
 use Rattle.calendar.specs.declared.style.Calendar.TheVariants.{Julian, Gregorian}
 use Rattle.calendar.specs.declared.style.Calendar.{Calendar}
-use Rattle.std.specs.Prelude.{Ok}
 
 -- in_span and served, as facts
 pub span_range : (c : Calendar) (n : ℕ) → in_span c n ≡ true → (first_day c ≤ n) × (n ≤ last_day c)
@@ -20,11 +18,6 @@ span_range c n e = range (first_day c) n (last_day c) e
 pub served_range : (c : Calendar) (y : ℕ) → served c y ≡ true → (first_year c ≤ y) × (y ≤ 9999)
 unfolding served
 served_range c y e = range (first_year c) y 9999 e
-
--- an answered day lies in the span, and is the day that was asked of
-pub answered_span : (c : Calendar) (m n : ℕ) → within c m ≡ Ok n → (in_span c m ≡ true) × (m ≡ n)
-unfolding within
-answered_span c m n e = let p = passed (span_tests c m) m n e in (p.0.0, p.1)
 
 -- bounds that hold in both calendars
 ends : (c : Calendar) → (1 ≤ first_year c) × (earliest ≤ first_day c) × (last_day c ≤ latest)

@@ -7,7 +7,7 @@ use Prim.Native.Nat.{ℕ}
 use lib.Dec.{T, eqb}
 use Rattle.calendar.proofs.refusal.Laws.{AllPass, rising, given, given_of}
 use Rattle.calendar.specs.Refusal.{refusal_number, Test, ◌unless◌, checked, Holds, Lowest}
-use Rattle.calendar.specs.Style.{style_number, dates_by, easter_by, wholly, style_of, in_style, by_number}
+use Rattle.calendar.specs.Style.{style_number, dates_by, wholly, style_of, in_style, by_number}
 use Rattle.calendar.specs.declared.refusal.Refusal.TheVariants.{Name}
 use Rattle.calendar.specs.declared.refusal.Refusal.{Refusal}
 use Rattle.calendar.specs.declared.style.Calendar.TheVariants.{Julian, Gregorian}
@@ -27,10 +27,6 @@ by_number_lem O = refl
 pub whole_dates : (c : Calendar) → dates_by (wholly c) ≡ c
 whole_dates Julian = refl
 whole_dates Gregorian = refl
-
-pub whole_easter : (c : Calendar) → easter_by (wholly c) ≡ c
-whole_easter Julian = refl
-whole_easter Gregorian = refl
 
 -- what holds in each style, and where there is none, holds whatever the number
 pub by_cases {ℓ} : (P : Result Style Refusal → Type ℓ) → ((s : Style) → P (Ok s)) → P (Err Name) → (k : ℕ) → P (style_of k)

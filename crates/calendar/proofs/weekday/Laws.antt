@@ -32,12 +32,6 @@ back_closed w latest low high =
     let e : latest + 1 + 6 * w ≡ latest + 8 - w + 7 * (w - 1) = omega arith in
     ap (λ (r : ℕ). r + 7) (ap (λ (n : ℕ). n % 7) e ∙ sevens (latest + 8 - w) (w - 1))
 
-pub latest_small : (c : Start) (x : Side) (n : ℕ) → latest_of_seven c x n ≤ n + 14
-latest_small Counted After n = omega arith
-latest_small Uncounted After n = omega arith
-latest_small Counted Before n = omega arith
-latest_small Uncounted Before n = omega arith
-
 -- the search goes from the day n or from the next
 later_from : (c : Start) (n : ℕ) → latest_of_seven c After n ≡ search_from c After n + 13
 later_from Counted n = omega arith
