@@ -11,6 +11,7 @@ use borrow.Author.Tests.{le-leb, lt-leb, eqb-true, eqb-false}
 use Rattle.calendar.proofs.date.Laws as laws
 pub use Rattle.calendar.proofs.date.Laws.{day_range}
 use Rattle.calendar.proofs.distance.Laws.{both_days, distance_size, zero_same_day, same_day_zero}
+pub use Rattle.calendar.proofs.span.Day.{one_day_in}
 use Rattle.calendar.proofs.span.Laws.{span_small}
 use Rattle.calendar.proofs.style.Laws.{by_number_lem, both_in, given_by_number, given_of_any}
 use Rattle.calendar.proofs.weekday.Laws.{is_later, is_earlier}
