@@ -10,7 +10,7 @@ use crate::range::is_between;
 use crate::refusal::Refusal;
 use crate::span::{SpanDay, day_within};
 use crate::style::{Calendar, Style};
-use crate::year::{NamedYear, is_leap, is_served, new_year, year_at};
+use crate::year::NamedYear;
 
 // A year, a month of it and a day of that month.
 #[derive(Clone, Copy, PartialEq, Eq)]
@@ -89,7 +89,7 @@ fn is_date(calendar: Calendar, year: u64, month: u64, day: u64) -> bool
         return true;
     }
     let its_month = Month { number: month };
-    is_between(1, day, its_month.length(is_leap(calendar, year)))
+    is_between(1, day, its_month.length(calendar.is_leap(year)))
 }
 
 // The day number of a date.
@@ -99,7 +99,7 @@ fn day_number(calendar: Calendar, year: u64, month: u64, day: u64) -> u64
     ensures { result ≡ day_number calendar year month day }
 {
     let behind_february = if month > 2 { 1 } else { 0 };
-    let start = new_year(calendar, year + behind_february);
+    let start = calendar.new_year(year + behind_february);
     // The quotient is the days before the month if February had 30, and a year 367: behind February a day counts back from the next new year.
     start + (979 * month - 966) / 32 + (day - 1) - 367 * behind_february
 }
@@ -109,7 +109,7 @@ fn day_number(calendar: Calendar, year: u64, month: u64, day: u64) -> u64
 pub fn day_in_calendar(calendar: Calendar, year: u64, month: u64, day: u64) -> Result<u32, Refusal>
     ensures { result ≡ day_in_calendar calendar year month day }
 {
-    if !is_served(calendar, year) {
+    if !calendar.is_served(year) {
         return Err(Refusal::Year);
     }
     if !is_date(calendar, year, month, day) {
@@ -157,9 +157,9 @@ fn date_in_calendar(calendar: Calendar, day: u64) -> CalendarDate
     requires { in_span calendar day ≡ true }
     ensures { IsDateOf calendar day (Ok result) }
 {
-    let year = year_at(calendar, day);
-    let day_of_year = day - new_year(calendar, year);
-    let leap_year = is_leap(calendar, year);
+    let year = calendar.year_at(day);
+    let day_of_year = day - calendar.new_year(year);
+    let leap_year = calendar.is_leap(year);
     let month = month_at(leap_year, day_of_year);
     CalendarDate {
         year,

@@ -4,7 +4,7 @@ ghost use Rattle.calendar.specs.Day.{IsDayIn};
 ghost use Rattle.calendar.specs.Weekday.{weekday};
 
 use crate::refusal::Refusal;
-use crate::span::{SpanDay, is_in_span};
+use crate::span::SpanDay;
 use crate::style::Style;
 
 impl SpanDay {
@@ -13,7 +13,7 @@ impl SpanDay {
     pub fn new(style: Style, number: u64) -> Result<SpanDay, Refusal>
         ensures { IsDayIn style number result }
     {
-        if !is_in_span(style.dates_by(), number) {
+        if !style.dates_by().is_in_span(number) {
             return Err(Refusal::Span);
         }
         Ok(SpanDay {

@@ -15,32 +15,34 @@ pub struct SpanDay {
     ghost in_span: { in_span (dates_by style) number ≡ true },
 }
 
-// The first day of the span.
-fn first_day(calendar: Calendar) -> u64
-    ensures { result ≡ first_day calendar }
-{
-    match calendar {
-        Calendar::Julian => 1721424,
-        Calendar::Gregorian => 2299161,
+impl Calendar {
+    // The first day of the span.
+    fn first_day(self) -> u64
+        ensures { result ≡ first_day self }
+    {
+        match self {
+            Calendar::Julian => 1721424,
+            Calendar::Gregorian => 2299161,
+        }
     }
-}
 
-// The last day of the span.
-fn last_day(calendar: Calendar) -> u64
-    ensures { result ≡ last_day calendar }
-{
-    match calendar {
-        Calendar::Julian => 5373557,
-        Calendar::Gregorian => 5373484,
+    // The last day of the span.
+    fn last_day(self) -> u64
+        ensures { result ≡ last_day self }
+    {
+        match self {
+            Calendar::Julian => 5373557,
+            Calendar::Gregorian => 5373484,
+        }
     }
-}
 
-// Whether a day lies in the span.
-#[tactic(auto, unfolding(crate::specs::Span::in_span))]
-pub(crate) fn is_in_span(calendar: Calendar, day: u64) -> bool
-    ensures { result ≡ in_span calendar day }
-{
-    is_between(first_day(calendar), day, last_day(calendar))
+    // Whether a day lies in the span.
+    #[tactic(auto, unfolding(crate::specs::Span::in_span))]
+    pub(crate) fn is_in_span(self, day: u64) -> bool
+        ensures { result ≡ in_span self day }
+    {
+        is_between(self.first_day(), day, self.last_day())
+    }
 }
 
 // The day itself where the span has it.
@@ -48,7 +50,7 @@ pub(crate) fn is_in_span(calendar: Calendar, day: u64) -> bool
 pub fn day_within(calendar: Calendar, day: u64) -> Result<u32, Refusal>
     ensures { result ≡ within calendar day }
 {
-    if !is_in_span(calendar, day) {
+    if !calendar.is_in_span(day) {
         return Err(Refusal::Span);
     }
     Ok(day as u32)

@@ -6,8 +6,8 @@ use Rattle.calendar.proofs.year.Laws.{estimate_J, estimate_G, estimated}
 use Rattle.calendar.specs.Span.{last_day}
 use Rattle.calendar.specs.Year.{first_new_year}
 use Rattle.calendar.specs.declared.style.Calendar.TheVariants.{Julian, Gregorian}
-use Rattle.calendar.proofs.year.year_estimate.Goals as goal
-use Rattle.calendar.proofs.year.year_estimate.Goals.{In-Gregorian, In-Julian}
+use Rattle.calendar.proofs.style.Calendar.year_estimate.Goals as goal
+use Rattle.calendar.proofs.style.Calendar.year_estimate.Goals.{In-Gregorian, In-Julian}
 
 j_days : (c : In-Julian) → (first_new_year Julian ≤ c.args.day) × (c.args.day ≤ last_day Julian)
 j_days c =
