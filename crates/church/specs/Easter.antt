@@ -1,17 +1,19 @@
 -- The limit, Easter and its key, for all years from 1 on; which years are answered is a test of its own.
-use Rattle.std.specs.Prelude.{Bool, false, ◌&&◌, not, List, [], ◌∷◌, ℕ, ◌+◌, ◌-◌, eqb}
+use Rattle.std.specs.Prelude.{Bool, false, ◌&&◌, not, List, [], ◌∷◌, ℕ, ◌+◌, ◌-◌, eqb, Result, Ok, Err}
 use Rattle.calendar.specs.Date.{day_number}
-use Rattle.calendar.specs.Refusal.{Test, ◌unless◌}
+use Rattle.calendar.specs.Refusal.{Test, ◌unless◌, checked}
 use Rattle.calendar.specs.Style.{dates_by, easter_by}
 use Rattle.calendar.specs.Weekday.{sunday, first_weekday}
 use Rattle.calendar.specs.Year.{served}
 use Rattle.church.specs.Column.{luna}
 use Rattle.calendar.specs.declared.refusal.Refusal.TheVariants.{Year}
+use Rattle.calendar.specs.declared.refusal.Refusal.{Refusal}
 use Rattle.calendar.specs.declared.style.Calendar.TheVariants.{Julian, Gregorian}
 use Rattle.calendar.specs.declared.style.Calendar.{Calendar}
 use Rattle.calendar.specs.declared.style.Style.{Style}
 use Rattle.calendar.specs.declared.weekday.Side.TheVariants.{After}
 use Rattle.calendar.specs.declared.weekday.Start.TheVariants.{Uncounted}
+use Rattle.calendar.specs.declared.year.NamedYear.{NamedYear}
 
 -- "The limit is thirteen days after Luna I.", a day of March run on past 31; of O: "Its limit is the J one, counted in J's March."
 unfoldable pub limit : Calendar → ℕ → ℕ
@@ -42,3 +44,7 @@ has_easter c y = served c y && not (reform_year c y)
 -- refusal 4 for the sheet and Easter
 abbrev pub easter_tests : Calendar → ℕ → List Test
 easter_tests c y = Year unless has_easter c y ∷ []
+
+-- Easter in the named year t, refused by 4
+abbrev pub easter_of_year : NamedYear → Result ℕ Refusal
+easter_of_year t = checked Err (Ok (easter (easter_by t.style) t.year)) (easter_tests (dates_by t.style) t.year)

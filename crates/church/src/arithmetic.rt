@@ -7,16 +7,16 @@ fn settled_limit(golden_number: u64, brought: u64) -> u64
     ensures { result ≡ settled golden_number brought }
 {
     let at_most_49 = if brought == 50 { 49 } else { brought };
-    // A limit that was 50 did not come to 49 directly.
-    if brought == 49 {
-        if golden_number > 11 {
-            return 48;
-        }
+    // A limit that was 50 did not come to 49 directly. A match on both would branch, where these only choose.
+    if brought == 49 && golden_number > 11 {
+        48
+    } else {
+        at_most_49
     }
-    at_most_49
 }
 
 // The Gregorian limit of a golden number, its b, and a year's whole hundreds, as many as a 64-bit year can have.
+#[tactic(auto, using(crate::proofs::arithmetic::Laws::gregorian_closed))]
 pub(crate) fn gregorian_limit(golden_number: u64, b: u64, hundreds: u64) -> u64
     requires { (b ≤ 29) × (hundreds ≤ 184467440737095516) }
     ensures { result ≡ gregorian_limit golden_number (z_of hundreds) b }
@@ -32,8 +32,5 @@ pub(crate) fn julian_limit(b: u64) -> u64
     requires { b ≤ 29 }
     ensures { result ≡ julian_limit b }
 {
-    if b > 26 {
-        return 77 - b;
-    }
-    47 - b
+    if b > 26 { 77 - b } else { 47 - b }
 }

@@ -5,6 +5,7 @@ ghost use Rattle.church.specs.Epact.{golden, by30, gregorian_sum, epact, arabic}
 use calendar::style::Calendar;
 
 // The golden number.
+#[tactic(auto, unfolding(crate::specs::Epact::golden))]
 pub(crate) fn golden_number(year: u64) -> u64
     ensures { result ≡ golden year }
 {
@@ -23,6 +24,7 @@ fn gregorian_epact(golden_number: u64, hundreds: u64) -> u64
 }
 
 // The epact.
+#[tactic(auto, using(crate::proofs::epact::Laws::golden_range), unfolding(crate::specs::Epact::epact))]
 pub(crate) fn epact_number(calendar: Calendar, year: u64) -> u64
     ensures { result ≡ epact calendar year }
 {
@@ -34,17 +36,13 @@ pub(crate) fn epact_number(calendar: Calendar, year: u64) -> u64
 }
 
 // Whether the year's epact is the Arabic 25.
+#[tactic(auto, unfolding(crate::specs::Epact::arabic))]
 pub(crate) fn is_arabic(calendar: Calendar, year: u64, number: u64) -> bool
     requires { number ≡ epact calendar year }
     ensures { result ≡ arabic calendar year }
 {
     match calendar {
         Calendar::Julian => false,
-        Calendar::Gregorian => {
-            if number != 25 {
-                return false;
-            }
-            golden_number(year) > 11
-        }
+        Calendar::Gregorian => number == 25 && golden_number(year) > 11,
     }
 }

@@ -1,102 +1,95 @@
 // Feasts by their numbers: 1 to 23 hang on Easter, 24 to 47 are fixed, 48 is advent.
 ghost use Rattle.std.specs.Prelude.{◌≡◌, ◌≤◌};
-ghost use Rattle.calendar.specs.Year.{named};
 ghost use Rattle.church.specs.Feast.{advent, rule, rule_day, feast_in_year, feast_of_year};
 
 use crate::easter::{SUNDAY, easter_of_year};
 use calendar::date::day_in_year;
-use calendar::range::is_between;
 use calendar::refusal::Refusal;
 use calendar::span::day_within;
 use calendar::style::Style;
 use calendar::weekday::{Side, Start, first_weekday};
 use calendar::year::{NamedYear, is_leap};
 
-// The days from Easter of the feasts 1 to 23, with 63 added to each.
-const FROM_EASTER: [u8; 23] = [
-    0, // septuagesima (-63)
-    7, // sexagesima (-56)
-    14, // estomihi (-49)
-    17, // ashes (-46)
-    21, // invocavit (-42)
-    28, // reminiscere (-35)
-    35, // oculi (-28)
-    42, // laetare (-21)
-    49, // judica (-14)
-    56, // palms (-7)
-    60, // cena (-3)
-    61, // parasceve (-2)
-    63, // easter (0)
-    70, // quasimodo (7)
-    77, // misericordia (14)
-    84, // jubilate (21)
-    91, // cantate (28)
-    98, // rogate (35)
-    102, // ascension (39)
-    105, // exaudi (42)
-    112, // pentecost (49)
-    119, // trinity (56)
-    123, // corpus (60)
+// The days from Easter of the feasts 1 to 23. The tables are static, since each use of a constant one may lay it on the stack anew.
+static FROM_EASTER: [i8; 23] = [
+    -63, // septuagesima
+    -56, // sexagesima
+    -49, // estomihi
+    -46, // ashes
+    -42, // invocavit
+    -35, // reminiscere
+    -28, // oculi
+    -21, // laetare
+    -14, // judica
+    -7, // palms
+    -3, // cena
+    -2, // parasceve
+    0, // easter
+    7, // quasimodo
+    14, // misericordia
+    21, // jubilate
+    28, // cantate
+    35, // rogate
+    39, // ascension
+    42, // exaudi
+    49, // pentecost
+    56, // trinity
+    60, // corpus
 ];
 
-// The dates of the feasts 24 to 47, each as one number: the day, 32 times the month, and 512 for one that is a day later in leap years.
-const FIXED_DATES: [u16; 24] = [
-    33, // circumcision (1.1)
-    38, // epiphany (6.1)
-    66, // candlemas (2.2)
-    600, // matthias (24.2, in leap years a day later)
-    121, // annunciation (25.3)
-    153, // mark (25.4)
-    161, // philip (1.5)
-    216, // baptist (24.6)
-    221, // peter (29.6)
-    246, // magdalene (22.7)
-    249, // james (25.7)
-    266, // laurence (10.8)
-    271, // assumption (15.8)
-    280, // bartholomew (24.8)
-    309, // matthew (21.9)
-    317, // michael (29.9)
-    338, // luke (18.10)
-    348, // simon (28.10)
-    353, // saints (1.11)
-    363, // martin (11.11)
-    382, // andrew (30.11)
-    390, // nicholas (6.12)
-    405, // thomas (21.12)
-    409, // christmas (25.12)
+// Day and month of the feasts 24 to 47, and whether the feast is a day later in leap years.
+static FIXED_DATES: [(u8, u8, bool); 24] = [
+    (1, 1, false), // circumcision
+    (6, 1, false), // epiphany
+    (2, 2, false), // candlemas
+    (24, 2, true), // matthias
+    (25, 3, false), // annunciation
+    (25, 4, false), // mark
+    (1, 5, false), // philip
+    (24, 6, false), // baptist
+    (29, 6, false), // peter
+    (22, 7, false), // magdalene
+    (25, 7, false), // james
+    (10, 8, false), // laurence
+    (15, 8, false), // assumption
+    (24, 8, false), // bartholomew
+    (21, 9, false), // matthew
+    (29, 9, false), // michael
+    (18, 10, false), // luke
+    (28, 10, false), // simon
+    (1, 11, false), // saints
+    (11, 11, false), // martin
+    (30, 11, false), // andrew
+    (6, 12, false), // nicholas
+    (21, 12, false), // thomas
+    (25, 12, false), // christmas
 ];
 
 // The day of a feast that hangs on Easter.
+#[tactic(auto, using(crate::proofs::feast::Laws::hung_rule, crate::proofs::feast::Laws::hung_refused))]
 fn hung_on_easter(named: NamedYear, feast: u64) -> Result<u32, Refusal>
     requires { (1 ≤ feast) × (feast ≤ 23) }
     ensures { result ≡ rule_day named (rule feast) }
 {
     let easter = easter_of_year(named)?;
-    let i = (feast - 1) as usize;
-    day_within(
-        named.style.dates_by(),
-        easter as u64 + FROM_EASTER[i] as u64 - 63,
-    )
+    let days = i64::from(FROM_EASTER[(feast - 1) as usize]);
+    day_within(named.style.dates_by(), (i64::from(easter) + days) as u64)
 }
 
 // The day of a feast that has a date.
+#[tactic(auto, using(crate::proofs::feast::Laws::fixed_rule, crate::proofs::feast::Laws::fixed_small, crate::proofs::feast::Laws::kept_day))]
 fn fixed_in_year(named: NamedYear, feast: u64) -> Result<u32, Refusal>
     requires { (24 ≤ feast) × (feast ≤ 47) }
     ensures { result ≡ rule_day named (rule feast) }
 {
-    let i = (feast - 24) as usize;
-    let date = FIXED_DATES[i] as u64;
-    // Whether the year is leap is asked only for a feast that is a day later in leap years.
-    let later = if date >= 512 && is_leap(named.style.dates_by(), named.year) {
-        1
-    } else {
-        0
-    };
-    day_in_year(named, date / 32 % 16, date % 32 + later)
+    let (day, month, moves) = FIXED_DATES[(feast - 24) as usize];
+    // Whether the year is leap is asked only for a feast that moves.
+    let later = moves && is_leap(named.style.dates_by(), named.year);
+    day_in_year(named, u64::from(month), u64::from(day) + u64::from(later))
 }
 
 // Advent, the first Sunday on or after 27 November.
+#[tactic(auto, using(crate::proofs::feast::Laws::advent_refused, crate::proofs::feast::Laws::advent_told))]
 fn advent_of_year(named: NamedYear) -> Result<u32, Refusal>
     ensures { result ≡ rule_day named advent }
 {
@@ -107,33 +100,23 @@ fn advent_of_year(named: NamedYear) -> Result<u32, Refusal>
     )
 }
 
-// The day of a feast of a year; its style and year come by themselves, which are handed on in registers, as a record is not.
-fn feast_by(style: Style, year: u64, feast: u64) -> Result<u32, Refusal>
-    ensures { result ≡ feast_in_year (named style year) feast }
-{
-    let named = NamedYear { style, year };
-    if !is_between(1, feast, 48) {
-        return Err(Refusal::Name);
-    }
-    if feast < 24 {
-        return hung_on_easter(named, feast);
-    }
-    if feast < 48 {
-        return fixed_in_year(named, feast);
-    }
-    advent_of_year(named)
-}
-
 // The day of a feast of a named year.
+#[tactic(auto, unfolding(crate::specs::Feast::feast_in_year, calendar::specs::Range::between))]
 pub fn feast_in_year(named: NamedYear, feast: u64) -> Result<u32, Refusal>
     ensures { result ≡ feast_in_year named feast }
 {
-    feast_by(named.style, named.year, feast)
+    match feast {
+        1..=23 => hung_on_easter(named, feast),
+        24..=47 => fixed_in_year(named, feast),
+        48 => advent_of_year(named),
+        _ => Err(Refusal::Name),
+    }
 }
 
 // Feast: refused by 1, 4 or 6.
 pub fn feast_of_year(style: u64, feast: u64, year: u64) -> Result<u32, Refusal>
     ensures { result ≡ feast_of_year style feast year }
 {
-    feast_by(Style::try_from(style)?, year, feast)
+    let style = Style::try_from(style)?;
+    feast_in_year(NamedYear { style, year }, feast)
 }

@@ -7,7 +7,7 @@ use calendar::style::Calendar;
 use calendar::year::is_leap;
 
 // The bytes of the letters up to 28 February and from 1 March.
-#[derive(Clone, Copy)]
+#[derive(Clone, Copy, PartialEq, Eq)]
 pub struct SundayLetters {
     pub first: u8,
     pub second: u8,
@@ -20,21 +20,16 @@ fn letter_after(n: u32) -> u8
     b'A' + (n % 7) as u8
 }
 
-// The letter of the Sundays up to 28 February, told by the day of 21 March.
-pub(crate) fn first_letter(calendar: Calendar, year: u64, equinox: u32) -> u8
+// The letters of a year, told by the day of 21 March.
+pub(crate) fn sunday_letters(calendar: Calendar, year: u64, equinox: u32) -> SundayLetters
     requires { equinox ≡ march calendar year 21 }
-    ensures { SundayLetter calendar year first result }
+    ensures first { SundayLetter calendar year first result.first }
+    ensures second { SundayLetter calendar year second result.second }
 {
-    if is_leap(calendar, year) {
-        return letter_after(9 - equinox % 7);
+    // The leap day makes the first letter one later.
+    let ahead = u32::from(is_leap(calendar, year));
+    SundayLetters {
+        first: letter_after(8 + ahead - equinox % 7),
+        second: letter_after(8 - equinox % 7),
     }
-    letter_after(8 - equinox % 7)
-}
-
-// The letter of the Sundays from 1 March on, told by the day of 21 March.
-pub(crate) fn second_letter(calendar: Calendar, year: u64, equinox: u32) -> u8
-    requires { equinox ≡ march calendar year 21 }
-    ensures { SundayLetter calendar year second result }
-{
-    letter_after(8 - equinox % 7)
 }

@@ -3,13 +3,13 @@ ghost use Rattle.church.specs.Sheet.{IsSheetInYear, IsSheetOfYear};
 
 use crate::easter::{easter_of_year, equinox, limit_of_year};
 use crate::epact::{epact_number, golden_number, is_arabic};
-use crate::letter::{SundayLetters, first_letter, second_letter};
+use crate::letter::{SundayLetters, sunday_letters};
 use calendar::refusal::Refusal;
 use calendar::style::Style;
 use calendar::year::{NamedYear, is_leap};
 
 // What the church's tables tell of a year.
-#[derive(Clone, Copy)]
+#[derive(Clone, Copy, PartialEq, Eq)]
 pub struct YearSheet {
     pub leap: bool,
     pub golden: u64,
@@ -26,28 +26,24 @@ pub struct YearSheet {
 }
 
 // The sheet of a named year.
+#[tactic(auto, using(crate::proofs::easter::Laws::key_fits, crate::proofs::easter::Laws::key_to_easter), unfolding(crate::specs::Easter::key))]
 pub fn sheet_in_year(named: NamedYear) -> Result<YearSheet, Refusal>
     ensures { IsSheetInYear named result }
 {
-    let style = named.style;
     let year = named.year;
     let easter = easter_of_year(named)?;
-    let date_calendar = style.dates_by();
-    let easter_calendar = style.easter_by();
+    let date_calendar = named.style.dates_by();
+    let easter_calendar = named.style.easter_by();
     let equinox = equinox(date_calendar, year)?;
-    let first = first_letter(date_calendar, year, equinox);
-    let second = second_letter(date_calendar, year, equinox);
     let epact = epact_number(easter_calendar, year);
-    let limit = limit_of_year(easter_calendar, year);
-    let key = (easter - equinox) as u64;
     Ok(YearSheet {
         leap: is_leap(date_calendar, year),
         golden: golden_number(year),
         epact,
         arabic: is_arabic(easter_calendar, year, epact),
-        letters: SundayLetters { first, second },
-        limit,
-        key,
+        letters: sunday_letters(date_calendar, year, equinox),
+        limit: limit_of_year(easter_calendar, year),
+        key: u64::from(easter - equinox),
         easter,
     })
 }
@@ -56,8 +52,6 @@ pub fn sheet_in_year(named: NamedYear) -> Result<YearSheet, Refusal>
 pub fn sheet_of_year(style: u64, year: u64) -> Result<YearSheet, Refusal>
     ensures { IsSheetOfYear style year result }
 {
-    sheet_in_year(NamedYear {
-        style: Style::try_from(style)?,
-        year,
-    })
+    let style = Style::try_from(style)?;
+    sheet_in_year(NamedYear { style, year })
 }

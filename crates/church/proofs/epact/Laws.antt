@@ -5,8 +5,8 @@ use Prim.Native.Nat.{ℕ, zero, suc, ◌+◌, ◌-◌, ◌*◌, ◌/◌, ◌%◌
 use native.Mathlib.Omega.{arith}
 use lib.Dec.{ltb}
 use lib.IntN.{ℤ, pos, negsuc, sub_ℕ, ◌+ℤ◌, ◌-ℤ◌, ◌*ℤ◌}
-use borrow.Author.Tests.{lt-ltb, ltb-true, ltb-false, eq-eqb, ne_eqb}
-use Rattle.church.specs.Epact.{golden, hundreds, by30, gregorian_sum, epact, arabic}
+use borrow.Author.Tests.{lt-ltb, ltb-true, ltb-false}
+use Rattle.church.specs.Epact.{golden, hundreds, by30, gregorian_sum, epact}
 use Rattle.calendar.specs.declared.style.Calendar.TheVariants.{Julian, Gregorian}
 use Rattle.calendar.specs.declared.style.Calendar.{Calendar}
 
@@ -53,14 +53,3 @@ pub epact_small : (c : Calendar) (y : ℕ) → epact c y ≤ 29
 unfolding epact
 epact_small Julian y = omega arith
 epact_small Gregorian y = by30_small (gregorian_sum (golden y) (hundreds y))
-
--- the Arabic 25, as the code tells it
-pub not_25 : (c : Calendar) (y : ℕ) → (epact c y ≡ 25 → ⊥) → arabic c y ≡ false
-unfolding arabic
-not_25 Julian y h = refl
-not_25 Gregorian y h = rw (ne_eqb (epact Gregorian y) 25 h)
-
-pub is_25 : (c : Calendar) (y : ℕ) → c ≡ Gregorian → epact c y ≡ 25 → arabic c y ≡ ltb 11 (golden y)
-unfolding arabic
-is_25 Julian y g h = let z : ◌≡◌ {A = ℕ} 0 1 = cc in absurd (omega arith)
-is_25 Gregorian y g h = rw (eq-eqb (epact Gregorian y) 25 h)

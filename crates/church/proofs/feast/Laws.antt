@@ -1,13 +1,20 @@
 -- The code's tables of feasts, and advent.
 use mathlib.Core.Bool.{Bool, true, false, ◌&&◌, not, cond}
-use mathlib.Core.List.{List, [], ◌∷◌}
+use mathlib.Core.List.{List, [], ◌∷◌, ◌++◌, map}
 use mathlib.Core.Path.{◌≡◌, refl, sym, ◌∙◌, ap}
-use Prim.Native.Nat.{ℕ, ◌+◌, ◌-◌, ◌/◌, ◌%◌, ◌≤◌, ◌<◌}
+use Prim.Native.Nat.{ℕ, pred, ◌+◌, ◌-◌, ◌≤◌, ◌<◌}
+use native.Mathlib.Nat.{add-zero}
 use native.Mathlib.Omega.{arith}
+use mir.Val.{to_z, of_z, bool_byte}
+use mir.Syntax.{w8, w64}
+use Rattle.std.proofs.lemmas.Int.{ints}
+use Rattle.calendar.proofs.refusal.Laws.{passed_day, refused_by}
 use lib.Dec.{T, leb, eqb, leb→le, eqb→eq}
-use lib.IntN.{ℤ, pos, negsuc}
+use lib.IntN.{ℤ, pos, negsuc, ◌+ℤ◌}
 use lib.ListN.{get_or}
-use Rattle.calendar.proofs.Each.{each, below, from_1, of_both, T-both, is_true}
+use Rattle.std.proofs.Math.ListN.{get_or-map, get_or-append}
+use Rattle.std.proofs.lemmas.List as list_laws
+use Rattle.calendar.proofs.Each.{each, below, from_1, is_true}
 use Rattle.calendar.proofs.date.Dates.{date_bounds, year_of}
 use Rattle.calendar.proofs.date.Laws.{answered}
 use Rattle.calendar.proofs.range.Laws.{range, in_range}
@@ -15,129 +22,125 @@ use Rattle.calendar.proofs.span.Laws.{served_small, served_range, span_start, in
 use Rattle.calendar.proofs.weekday.Laws.{is_later}
 use Rattle.calendar.specs.Date.{month_length, days_of_months, is_date, day_number, day_in_calendar, day_in_year}
 use Rattle.calendar.specs.Range.{between}
-use Rattle.calendar.specs.Refusal.{Test, ◌unless◌, checked}
-use Rattle.calendar.specs.Span.{first_day, in_span, span_tests}
+use Rattle.calendar.specs.Refusal.{◌unless◌, checked}
+use Rattle.calendar.specs.Span.{first_day, latest, in_span, within}
 use Rattle.calendar.specs.Style.{dates_by, easter_by}
-use Rattle.calendar.specs.Weekday.{weekday, sunday}
+use Rattle.calendar.specs.Weekday.{weekday, sunday, first_weekday}
+use Rattle.calendar.specs.declared.weekday.Side.TheVariants.{After}
 use Rattle.calendar.specs.Year.{named, leap, new_year, YearOf, first_year, served}
 use Rattle.church.proofs.easter.Laws.{easter_served, has_year, year_in_span, KeyFits, key_fits, near, hung_in_year}
-use Rattle.church.specs.Easter.{easter, has_easter}
-use Rattle.church.specs.Feast.{Rule, hung, on, on_or_in_leap_years, advent, rule, advent_sunday, days_from, served_for, date_exists}
+use Rattle.church.specs.Easter.{has_easter, easter_of_year}
+use Rattle.church.specs.declared.feast.TheConstants.{FROM_EASTER, FIXED_DATES}
+use Rattle.church.specs.Feast.{Rule, hung, on, on_or_in_leap_years, advent, ◌is◌, rule_of, feasts, rule, advent_sunday, days_from, served_for, date_exists}
 use Rattle.church.specs.Feast.{rule_number, rule_day, feast_in_year}
-use Rattle.calendar.specs.declared.refusal.Refusal.TheVariants.{Year, Date}
+use Rattle.calendar.specs.declared.refusal.Refusal.TheVariants.{Year}
 use Rattle.calendar.specs.declared.style.Calendar.TheVariants.{Julian, Gregorian}
 use Rattle.calendar.specs.declared.style.Calendar.{Calendar}
 use Rattle.calendar.specs.declared.style.Style.{Style}
 use Rattle.calendar.specs.declared.weekday.Start.TheVariants.{Counted}
 use Rattle.calendar.specs.declared.year.NamedYear.{NamedYear}
-use Rattle.std.specs.Prelude.{Result, Ok, Err}
+use Rattle.std.specs.Prelude.{Ok, Err}
 use Rattle.calendar.specs.declared.refusal.Refusal.{Refusal}
 
--- the days from Easter with 63 added, the days, the months, and how many days later in leap years, as the code's tables have them
-abbrev pub from_easter : List ℕ
-from_easter =
-    0 ∷ 7 ∷ 14 ∷ 17 ∷ 21 ∷ 28 ∷ 35 ∷ 42 ∷ 49 ∷ 56 ∷ 60 ∷ 61
-    ∷ 63 ∷ 70 ∷ 77 ∷ 84 ∷ 91 ∷ 98 ∷ 102 ∷ 105 ∷ 112 ∷ 119 ∷ 123 ∷ []
+-- a row of the code's table of dates, day and month and whether the feast moves in leap years, as a rule
+abbrev pub Dated : Type 0
+Dated = ℕ × ℕ × Bool
 
-abbrev pub fixed_dates : List ℕ
-fixed_dates =
-    33 ∷ 38 ∷ 66 ∷ 600 ∷ 121 ∷ 153 ∷ 161 ∷ 216 ∷ 221 ∷ 246 ∷ 249 ∷ 266
-    ∷ 271 ∷ 280 ∷ 309 ∷ 317 ∷ 338 ∷ 348 ∷ 353 ∷ 363 ∷ 382 ∷ 390 ∷ 405 ∷ 409 ∷ []
+abbrev pub kept : Dated → Rule
+kept t = cond t.2 (on_or_in_leap_years t.0 t.1 (t.0 + 1) t.1) (on t.0 t.1)
 
--- a rule is b less 63 days from Easter
-hung_as : Rule → ℕ → Bool
-hung_as (hung z) b = near z && eqb (days_from z 63) b
-hung_as (on d m) b = false
-hung_as (on_or_in_leap_years d m d' m') b = false
-hung_as advent b = false
+-- the code's tables hold the rules of the feasts
+abbrev hung_rules : List Rule
+hung_rules = map (λ z. hung z) FROM_EASTER
 
-hung_tested : (i : ℕ) → i < 23 → T (hung_as (rule (i + 1)) (get_or from_easter i 0))
-unfolding hung_as
-hung_tested i h = below (λ i. hung_as (rule (i + 1)) (get_or from_easter i 0)) 23 tt i h
+abbrev fixed_rules : List Rule
+fixed_rules = map kept FIXED_DATES
 
--- the day n, where the year has an Easter and the span has the day
-abbrev pub hung_day : NamedYear → ℕ → Result ℕ Refusal
-hung_day t n = checked Err (Ok n) (Year unless has_easter (dates_by t.style) t.year ∷ span_tests (dates_by t.style) n)
+tables : map rule_of feasts ≡ hung_rules ++ (fixed_rules ++ (advent ∷ []))
+tables = refl
+
+rule_at : (f : ℕ) → rule f ≡ get_or (hung_rules ++ (fixed_rules ++ (advent ∷ []))) (pred f) (on 0 0)
+rule_at f = sym (get_or-map rule_of feasts (pred f) ("" is on 0 0))
+
+abbrev pub offset : ℕ → ℤ
+offset f = get_or FROM_EASTER (f - 1) (pos 0)
+
+pub hung_rule : (f : ℕ) → (1 ≤ f) × (f ≤ 23) → rule f ≡ hung (offset f)
+hung_rule f h =
+    let place : pred f ≡ f - 1 = omega arith in
+    rule_at f
+    ∙ get_or-append hung_rules (fixed_rules ++ (advent ∷ [])) (on 0 0) (pred f) (omega arith)
+    ∙ rw place (list_laws.get_or-map (λ z. hung z) FROM_EASTER (f - 1) (pos 0) (on 0 0) (omega arith))
+
+pub hung_near : (f : ℕ) → (1 ≤ f) × (f ≤ 23) → T (near (offset f))
+hung_near f h = below (λ i. near (get_or FROM_EASTER i (pos 0))) 23 tt (f - 1) (omega arith)
+
+abbrev pub fixed : ℕ → Dated
+fixed f = get_or FIXED_DATES (f - 24) (0, 0, false)
+
+pub fixed_rule : (f : ℕ) → (24 ≤ f) × (f ≤ 47) → rule f ≡ kept (fixed f)
+fixed_rule f h =
+    let place : pred f - 23 ≡ f - 24 = omega arith in
+    let small : f - 24 < 24 = omega arith in
+    rule_at f
+    ∙ list_laws.get_or-append_right hung_rules (fixed_rules ++ (advent ∷ [])) 23 (pred f) (on 0 0) refl (omega arith)
+    ∙ rw place (get_or-append fixed_rules (advent ∷ []) (on 0 0) (f - 24) small)
+    ∙ list_laws.get_or-map kept FIXED_DATES (f - 24) (0, 0, false) (on 0 0) small
+
+small_date : ℕ → Bool
+small_date i = leb (get_or FIXED_DATES i (0, 0, false)).0 31
+
+pub fixed_small : (f : ℕ) → (24 ≤ f) × (f ≤ 47) → (fixed f).0 ≤ 31
+unfolding small_date
+fixed_small f h = leb→le _ 31 (below small_date 24 tt (f - 24) (omega arith))
 
 pub from_63 : (z : ℤ) (n : ℕ) → T (near z) → days_from z n ≡ n + days_from z 63 - 63
 from_63 (pos k) n h = omega arith
 from_63 (negsuc k) n h = omega (arith, leb→le k 62 h)
-
--- a feast that hangs on Easter has a date in every year, so that this test changes nothing
-date_passed : (answer : Result ℕ Refusal) (year : Bool) (ts : List Test)
-    → checked Err answer (Year unless year ∷ Date unless true ∷ ts) ≡ checked Err answer (Year unless year ∷ ts)
-date_passed answer true ts = refl
-date_passed answer false ts = refl
-
-hung_rule : (t : NamedYear) (r : Rule) (b : ℕ) → T (hung_as r b) → rule_day t r ≡ hung_day t (easter (easter_by t.style) t.year + b - 63)
-unfolding hung_as
-hung_rule t (hung z) b h =
-    let k = T-both (near z) (eqb (days_from z 63) b) h in
-    rw (← eqb→eq (days_from z 63) b k.1, ← from_63 z (easter (easter_by t.style) t.year) k.0) (date_passed _ (has_easter (dates_by t.style) t.year) _)
-hung_rule t (on d m) b h = absurd h
-hung_rule t (on_or_in_leap_years d m d' m') b h = absurd h
-hung_rule t advent b h = absurd h
-
-pub hung_day_lem : (t : NamedYear) (i : ℕ) → i < 23
-    → rule_day t (rule (i + 1)) ≡ hung_day t (easter (easter_by t.style) t.year + get_or from_easter i 0 - 63)
-hung_day_lem t i h = hung_rule t (rule (i + 1)) (get_or from_easter i 0) (hung_tested i h)
-
-small_test : ℕ → Bool
-small_test i = leb (get_or from_easter i 0) 123
-
-pub from_easter_small : (i : ℕ) → i < 23 → get_or from_easter i 0 ≤ 123
-unfolding small_test
-from_easter_small i h = leb→le _ _ (below small_test 23 tt i h)
 
 -- what is said of the one of two dates that counts is said of its month and day
 pub of_date : {A : Type 0} (f : ℕ → ℕ → A) (b : Bool) (d m d' m' : ℕ) → cond b (f m' d') (f m d) ≡ f (cond b m' m) (cond b d' d)
 of_date f true d m d' m' = refl
 of_date f false d m d' m' = refl
 
--- a rule is the day d of the month m, in leap years or in common ones
-dated : Bool → Rule → ℕ → ℕ → Bool
-dated b (hung z) d m = false
-dated b (on d' m') d m = eqb d' d && eqb m' m
-dated b (on_or_in_leap_years d' m' d'' m'') d m = eqb (cond b d'' d') d && eqb (cond b m'' m') m
-dated b advent d m = false
-
--- the month, and the day of it for a leap or for a common year, that the code's table gives
-abbrev pub month_of : ℕ → ℕ
-month_of i = get_or fixed_dates i 0 / 32 % 16
-
-abbrev pub day_of_month : Bool → ℕ → ℕ
-day_of_month b i = get_or fixed_dates i 0 % 32 + cond (leb 512 (get_or fixed_dates i 0) && b) 1 0
-
-dated_tested : (b : Bool) (i : ℕ) → i < 24 → T (dated b (rule (i + 24)) (day_of_month b i) (month_of i))
-unfolding dated
-dated_tested b i h = of_both (λ b i. dated b (rule (i + 24)) (day_of_month b i) (month_of i)) 24 tt b i h
-
-dated_rule : (t : NamedYear) (r : Rule) (d m : ℕ) → T (dated (leap (dates_by t.style) t.year) r d m) → rule_day t r ≡ day_in_year t m d
-unfolding dated day_in_calendar
-dated_rule t (hung z) d m h = absurd h
-dated_rule t (on d' m') d m h =
-    let b = T-both (eqb d' d) (eqb m' m) h in
-    rw (eqb→eq d' d b.0, eqb→eq m' m b.1)
-dated_rule t (on_or_in_leap_years d' m' d'' m'') d m h =
+of_leap : (t : NamedYear) (d m d' m' : ℕ)
+    → let l = leap (dates_by t.style) t.year in
+    rule_day t (on_or_in_leap_years d m d' m') ≡ rule_day t (on (cond l d' d) (cond l m' m))
+of_leap t d m d' m' =
     let c = dates_by t.style in
-    let y = t.year in
-    let l = leap c y in
-    let b = T-both (eqb (cond l d'' d') d) (eqb (cond l m'' m') m) h in
-    rw (of_date (is_date c y) l d' m' d'' m'', of_date (day_number c y) l d' m' d'' m'', eqb→eq _ d b.0, eqb→eq _ m b.1)
-dated_rule t advent d m h = absurd h
+    let l = leap c t.year in
+    rw (of_date (is_date c t.year) l d m d' m', of_date (day_number c t.year) l d m d' m')
 
-pub fixed_day : (t : NamedYear) (i : ℕ) → i < 24
-    → rule_day t (rule (i + 24)) ≡ day_in_year t (month_of i) (day_of_month (leap (dates_by t.style) t.year) i)
-fixed_day t i h =
-    let l = leap (dates_by t.style) t.year in
-    dated_rule t (rule (i + 24)) (day_of_month l i) (month_of i) (dated_tested l i h)
+-- a row's feast is kept on its day, or a day later
+later_day : (b : Bool) (d m : ℕ) → (cond b (d + 1) d ≡ d + bool_byte b) × (cond b m m ≡ m)
+later_day true d m = (refl, refl)
+later_day false d m = (omega arith, refl)
 
-small_date : ℕ → Bool
-small_date i = leb (get_or fixed_dates i 0) 1023
+pub kept_day : (t : NamedYear) (r : Dated)
+    → rule_day t (kept r) ≡ day_in_year t r.1 (r.0 + bool_byte (r.2 && leap (dates_by t.style) t.year))
+unfolding day_in_calendar
+kept_day t r = go r.2
+  where
+    go : (b : Bool) → rule_day t (cond b (on_or_in_leap_years r.0 r.1 (r.0 + 1) r.1) (on r.0 r.1))
+        ≡ day_in_year t r.1 (r.0 + bool_byte (b && leap (dates_by t.style) t.year))
+    go true =
+        let l = later_day (leap (dates_by t.style) t.year) r.0 r.1 in
+        rw (of_leap t r.0 r.1 (r.0 + 1) r.1, l.0, l.1)
+    go false = rw add-zero
 
-pub fixed_small : (i : ℕ) → i < 24 → get_or fixed_dates i 0 ≤ 1023
-unfolding small_date
-fixed_small i h = leb→le _ 1023 (below small_date 24 tt i h)
+-- a feast that hangs on Easter is refused as Easter is, and else lies so many days from it
+pub hung_refused : (t : NamedYear) (z : ℤ) (x : Refusal) → easter_of_year t ≡ Err x → rule_day t (hung z) ≡ Err x
+hung_refused t z x e = let r = refused_by (has_easter (dates_by t.style) t.year) _ _ _ e in rw r.0 (ap Err (sym r.1))
+
+pub hung_told : (t : NamedYear) (z : ℤ) (n : ℕ) → easter_of_year t ≡ Ok n → rule_day t (hung z) ≡ within (dates_by t.style) (days_from z n)
+unfolding within
+hung_told t z n e = let d = passed_day (has_easter (dates_by t.style) t.year) _ _ _ e in rw (d.0, d.1)
+
+-- as the code's signed numbers have it
+pub signed_day : (z : ℤ) (n : ℕ) (a b : ℤ) → T (near z) → 63 ≤ n → n ≤ latest → a ≡ pos n → b ≡ to_z w8 (of_z w8 z)
+    → to_z w64 (of_z w64 (to_z w64 (of_z w64 a) +ℤ to_z w64 (of_z w64 b))) ≡ pos (days_from z n)
+signed_day (pos k) n a b h low high e g = omega (arith, ints, leb→le k 60 h)
+signed_day (negsuc k) n a b h low high e g = omega (arith, ints, leb→le k 62 h)
 
 -- a feast of the table is kept by its rule
 pub in_table : (t : NamedYear) (f : ℕ) → between 1 f 48 ≡ true → feast_in_year t f ≡ rule_day t (rule f)
@@ -168,10 +171,23 @@ november_in_span c y r =
     let in_year = dated_in_year c y 11 27 (served_small c y r).0 refl in
     in_span_from c (first_year c) y 330 (day_number c y 11 27) e.0 e.1 (first_november c) (november_27 c y) in_year.to
 
-pub november_answer : (c : Calendar) (y : ℕ)
+november_answer : (c : Calendar) (y : ℕ)
     → day_in_calendar c y 11 27 ≡ checked Err (Ok (day_number c y 11 27)) (Year unless served c y ∷ [])
 unfolding is_date between
 november_answer c y = answered c y 11 27 refl (november_in_span c y)
+
+-- advent is refused as 27 November is, and else lies in the week from it
+pub advent_refused : (t : NamedYear) (x : Refusal) → day_in_year t 11 27 ≡ Err x → rule_day t advent ≡ Err x
+advent_refused t x e =
+    let r = refused_by (served (dates_by t.style) t.year) _ _ _ (sym (november_answer (dates_by t.style) t.year) ∙ e) in
+    rw r.0 (ap Err (sym r.1))
+
+pub advent_told : (t : NamedYear) (n : ℕ) → day_in_year t 11 27 ≡ Ok n
+    → rule_day t advent ≡ within (dates_by t.style) (first_weekday Counted After sunday n)
+unfolding within advent_sunday
+advent_told t n e =
+    let d = passed_day (served (dates_by t.style) t.year) _ _ _ (sym (november_answer (dates_by t.style) t.year) ∙ e) in
+    rw (d.0, d.1)
 
 -- the week from 27 November to 3 December
 november : (b : Bool) → days_of_months b 11 ≡ days_of_months b 10 + 30

@@ -5,6 +5,7 @@ use mathlib.Core.Path.{◌≡◌, refl, sym, ◌∙◌}
 use Prim.Native.Nat.{ℕ, pred, ◌+◌, ◌-◌, ◌%◌, ◌≤◌}
 use native.Mathlib.Omega.{arith}
 use lib.Dec.{eqb}
+use mir.Val.{bool_byte}
 use borrow.Author.Tests.{leb-true, eqb-true, le-leb, lt-ltb, le-ltb}
 use Rattle.calendar.proofs.date.Dates.{date_bounds}
 use Rattle.calendar.proofs.date.Months.{leap_day}
@@ -23,7 +24,7 @@ before first b = 0
 before second b = cond b 1 0
 
 abbrev pub ahead : Part → Bool → ℕ
-ahead first b = cond b 1 0
+ahead first b = bool_byte b
 ahead second b = 0
 
 leap_split : (p : Part) (b : Bool) → (ahead p b ≤ 1) × (before p b + ahead p b ≡ cond b 1 0)
