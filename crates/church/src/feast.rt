@@ -8,7 +8,7 @@ use calendar::refusal::Refusal;
 use calendar::span::day_within;
 use calendar::style::Style;
 use calendar::weekday::{Side, Start, first_weekday};
-use calendar::year::{NamedYear, is_leap};
+use calendar::year::NamedYear;
 
 // The days from Easter of the feasts 1 to 23. The tables are static, since each use of a constant one may lay it on the stack anew.
 static FROM_EASTER: [i8; 23] = [
@@ -84,7 +84,7 @@ fn fixed_in_year(named: NamedYear, feast: u64) -> Result<u32, Refusal>
 {
     let (day, month, moves) = FIXED_DATES[(feast - 24) as usize];
     // Whether the year is leap is asked only for a feast that moves.
-    let later = moves && is_leap(named.style.dates_by(), named.year);
+    let later = moves && named.style.dates_by().is_leap(named.year);
     day_in_year(named, u64::from(month), u64::from(day) + u64::from(later))
 }
 

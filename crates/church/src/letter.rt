@@ -4,7 +4,6 @@ ghost use Rattle.church.specs.Easter.{march};
 ghost use Rattle.church.specs.Letter.{first, second, letter_after, SundayLetter};
 
 use calendar::style::Calendar;
-use calendar::year::is_leap;
 
 // The bytes of the letters up to 28 February and from 1 March.
 #[derive(Clone, Copy, PartialEq, Eq)]
@@ -27,7 +26,7 @@ pub(crate) fn sunday_letters(calendar: Calendar, year: u64, equinox: u32) -> Sun
     ensures second { SundayLetter calendar year second result.second }
 {
     // The leap day makes the first letter one later.
-    let ahead = u32::from(is_leap(calendar, year));
+    let ahead = u32::from(calendar.is_leap(year));
     SundayLetters {
         first: letter_after(8 + ahead - equinox % 7),
         second: letter_after(8 - equinox % 7),

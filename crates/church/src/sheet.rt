@@ -6,7 +6,7 @@ use crate::epact::{epact_number, golden_number, is_arabic};
 use crate::letter::{SundayLetters, sunday_letters};
 use calendar::refusal::Refusal;
 use calendar::style::Style;
-use calendar::year::{NamedYear, is_leap};
+use calendar::year::NamedYear;
 
 // What the church's tables tell of a year.
 #[derive(Clone, Copy, PartialEq, Eq)]
@@ -37,7 +37,7 @@ pub fn sheet_in_year(named: NamedYear) -> Result<YearSheet, Refusal>
     let equinox = equinox(date_calendar, year)?;
     let epact = epact_number(easter_calendar, year);
     Ok(YearSheet {
-        leap: is_leap(date_calendar, year),
+        leap: date_calendar.is_leap(year),
         golden: golden_number(year),
         epact,
         arabic: is_arabic(easter_calendar, year, epact),
