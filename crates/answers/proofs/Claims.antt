@@ -24,11 +24,12 @@ use Rattle.dating.specs.Line.{IsNumberOfLine}
 use Rattle.places.specs.Number.{number_bytes, number_of}
 use Rattle.answers.specs.Block.{kept, AnswersBlock, AnswersLast, joined, Run}
 use Rattle.answers.specs.Lines.{ended_lines, open_line, last_line, lines_of, AllEnded, each_ended, AllLack, HasLines, none, ended, Answers, IsOutput}
-use Rattle.answers.specs.Page.{page_tests, page_answer, IsPlace, Filled, FillsPage, page_refusal, number_at}
+use Rattle.answers.specs.Page.{page_tests, page_answer, IsPlace, Filled, FillsPage, number_at}
 use Rattle.calendar.specs.declared.refusal.Refusal.TheVariants.{Length}
 use Rattle.calendar.specs.declared.refusal.Refusal.{Refusal}
 use Rattle.answers.specs.declared.block.Progress.{Progress}
 use Rattle.std.specs.Prelude.{Ok, Err}
+use Rattle.calendar.specs.Refusal.{refusal_or_zero}
 
 -- What has the shape of an input's lines is its lines, and nothing else is.
 pub has_lines : (s : List ℕ) (ls : List (List ℕ)) → HasLines s ls ↔ (ls ≡ lines_of s)
@@ -119,21 +120,21 @@ later_stay s before after (t, (h, e)) =
 
 -- A page is refused by 2 exactly when it has more than 65,536 bytes or more lines than places, and else by no number.
 pub page_refused : (s : List ℕ) (size : ℕ)
-    → ((page_refusal (page_answer s size) ≡ 2) × ((65536 < length s) ⊎ (size / 4 < length (lines_of s))))
-    ⊎ ((page_refusal (page_answer s size) ≡ 0) × ((length s ≤ 65536) × (length (lines_of s) ≤ size / 4)))
+    → ((refusal_or_zero (page_answer s size) ≡ 2) × ((65536 < length s) ⊎ (size / 4 < length (lines_of s))))
+    ⊎ ((refusal_or_zero (page_answer s size) ≡ 0) × ((length s ≤ 65536) × (length (lines_of s) ≤ size / 4)))
 page_refused s size =
     elim (dec_lt 65536 (length s)) [
-      | yes long ↦ inl (sym (ap page_refusal (too_long s size long)), inl long)
+      | yes long ↦ inl (sym (ap refusal_or_zero (too_long s size long)), inl long)
       | no short ↦
           elim (dec_lt (size / 4) (length (lines_of s))) [
-            | yes many ↦ inl (sym (ap page_refusal (too_few s size (omega arith) many)), inr many)
-            | no few ↦ inr (sym (ap page_refusal (all_fit s size (omega arith) (omega arith))), (omega arith, omega arith))
+            | yes many ↦ inl (sym (ap refusal_or_zero (too_few s size (omega arith) many)), inr many)
+            | no few ↦ inr (sym (ap refusal_or_zero (all_fit s size (omega arith) (omega arith))), (omega arith, omega arith))
           ]
     ]
 
 -- A page has at most a line for each byte (lines-few), so that 262,144 bytes of places are enough for every page of at most 65,536 bytes.
-pub always_enough : (s : List ℕ) (size : ℕ) → length s ≤ 65536 → 262144 ≤ size → page_refusal (page_answer s size) ≡ 0
-always_enough s size short room = sym (ap page_refusal (all_fit s size short (omega (arith, lines_few s))))
+pub always_enough : (s : List ℕ) (size : ℕ) → length s ≤ 65536 → 262144 ≤ size → refusal_or_zero (page_answer s size) ≡ 0
+always_enough s size short room = sym (ap refusal_or_zero (all_fit s size short (omega (arith, lines_few s))))
 
 -- A page of no bytes has no lines, and a line feed at the start ends a line of no bytes.
 pub no_bytes : lines_of [] ≡ []

@@ -1,6 +1,6 @@
 -- A page of lines: the day or refusal of each in a place of its own.
 use Rattle.std.specs.Prelude.{List, [], ◌∷◌, ◌≡◌, ℕ, ◌*◌, ◌/◌, leb, length, take, drop}
-use Rattle.calendar.specs.Refusal.{refusal_number, Test, ◌unless◌, checked}
+use Rattle.calendar.specs.Refusal.{Test, ◌unless◌, checked}
 use Rattle.words.specs.Text.{over}
 use Rattle.dating.specs.Line.{IsNumberOfLine}
 use Rattle.places.specs.Number.{number_bytes, number_of}
@@ -29,16 +29,6 @@ Filled s before after = (t : List ℕ) × (InTurn IsPlace (lines_of s) t × (aft
 -- the call is lent the bytes before as places and leaves the bytes after: filled, or as they were where it refuses "before anything is written"
 abbrev pub FillsPage : (s before after : List ℕ) → Type 0
 FillsPage s before after = checked (λ x. after ≡ before) (Filled s before after) (page_tests s (length before))
-
--- the number of lines, "0 if refused"
-abbrev pub lines_or_zero : Result ℕ Refusal → ℕ
-lines_or_zero (Ok n) = n
-lines_or_zero (Err x) = 0
-
--- "the page's refusal, or 0"
-abbrev pub page_refusal : Result ℕ Refusal → ℕ
-page_refusal (Ok n) = 0
-page_refusal (Err x) = refusal_number x
 
 -- the number in the place i of the bytes s, where the first place is 0
 abbrev pub number_at : ℕ → List ℕ → ℕ

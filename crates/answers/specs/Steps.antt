@@ -1,5 +1,6 @@
 -- What the private functions of the blocks and the pages answer. No public promise is stated by these.
 use Rattle.std.specs.Prelude.{false, cond, List, [], ◌∷◌, ◌≡◌, ℕ, ◌+◌, ◌-◌, ◌*◌, ◌<◌, ◌≤◌, eqb, length, take, drop, get_or}
+use Rattle.std.specs.Prelude.{Option, position}
 use Rattle.words.specs.Text.{has}
 use Rattle.dating.specs.Answer.{line_feed}
 use Rattle.answers.specs.Block.{Written}
@@ -21,6 +22,10 @@ feeds (c ∷ s) = cond (eqb c line_feed) 1 0 + feeds s
 unfoldable pub feed_bits : List ℕ → ℕ
 feed_bits [] = 0
 feed_bits (c ∷ s) = feed_bits s * 256 + cond (eqb c line_feed) 128 0
+
+-- the place of the first line feed, where there is one
+abbrev pub first_feed : List ℕ → Option ℕ
+first_feed s = position (λ c. eqb c line_feed) s
 
 -- the bytes of s from the place i up to the place j
 abbrev pub between : List ℕ → (i j : ℕ) → List ℕ

@@ -1,6 +1,5 @@
 // Blocks of an input, and the answers to the lines in them.
-ghost use Rattle.std.specs.Prelude.{◌≡◌, ◌+◌, ◌*◌, ◌≤◌, min, length, take, drop};
-ghost use Rattle.words.specs.Text.{over};
+ghost use Rattle.std.specs.Prelude.{◌+◌, ◌*◌, ◌≤◌, length, take};
 ghost use Rattle.answers.specs.Block.{AnswersBlock, AnswersLast};
 ghost use Rattle.answers.specs.Steps.{AnswersEnded};
 
@@ -15,24 +14,17 @@ pub const INPUT: usize = 16000;
 pub const OUTPUT: usize = 65536;
 
 // How many bytes are written to the output, and how many are kept of the line that is still open.
-#[derive(Clone, Copy)]
+#[derive(Clone, Copy, PartialEq, Eq)]
 pub struct Progress {
     pub written: usize,
     pub kept: usize,
 }
 
 // How many bytes are written to the output, and where the line that is still open begins.
-#[derive(Clone, Copy)]
+#[derive(Clone, Copy, PartialEq, Eq)]
 struct Ended {
     written: usize,
     start: usize,
-}
-
-// The smaller of two numbers.
-fn least(a: usize, b: usize) -> usize
-    ensures { result ≡ min a b }
-{
-    if a < b { a } else { b }
 }
 
 // Answers the lines that end in the input.
@@ -42,62 +34,23 @@ fn answer_ended(input: &[u8], output: &mut [u8]) -> Ended
 {
     let mut written = 0;
     let mut start = 0;
-    let mut end = end_from(input, 0);
-    while end < input.len() {
+    while let Some(end) = end_from(input, start) {
         written += put_answer(&input[start..end], output, written);
         start = end + 1;
-        end = end_from(input, start);
     }
     Ended { written, start }
 }
 
-// Moves bytes to the start.
-fn move_to_start(bytes: &mut [u8], from: usize, count: usize)
-    requires { from + count ≤ length bytes.old }
-    ensures { bytes.new ≡ over (take count (drop from bytes.old)) bytes.old }
-{
-    let mut i = 0;
-    while i < count {
-        bytes[i] = bytes[from + i];
-        i += 1;
-    }
-}
-
-// Answers the lines that end in the first bytes of a buffer, and moves what is kept of the line that
-// is still open to its start.
-fn answer_filled(buffer: &mut [u8], filled: usize, output: &mut [u8]) -> Progress
-    requires { 4 * length buffer.old + 25 ≤ length output.old }
-    ensures { AnswersBlock (take filled buffer.old) buffer.old buffer.new output.old output.new result }
-{
-    let end = least(filled, buffer.len());
-    let ended = answer_ended(&buffer[..end], output);
-    let start = ended.start;
-    let kept = least(end - start, 121);
-    move_to_start(buffer, start, kept);
-    Progress {
-        written: ended.written,
-        kept,
-    }
-}
-
-// Answers the line that is the first bytes of a buffer, if there are any.
-fn answer_open(buffer: &[u8], filled: usize, output: &mut [u8]) -> usize
-    requires { 25 ≤ length output.old }
-    ensures { AnswersLast (take filled buffer.now) output.old output.new result }
-{
-    let end = least(filled, buffer.len());
-    if end == 0 {
-        return 0;
-    }
-    put_answer(&buffer[..end], output, 0)
-}
-
 // A block of the input: answers the lines that end in the first bytes of the buffer, and moves what is
-// kept of the line that is still open to its start, so that the next block can be read behind it.
+// kept of the line that is still open to its start, so that the next block can be read after it.
 pub fn answer_block(buffer: &mut [u8; INPUT], filled: usize, output: &mut [u8; OUTPUT]) -> Progress
     ensures { AnswersBlock (take filled buffer.old) buffer.old buffer.new output.old output.new result }
 {
-    answer_filled(buffer, filled, output)
+    let end = filled.min(INPUT);
+    let Ended { written, start } = answer_ended(&buffer[..end], output);
+    let kept = (end - start).min(121);
+    buffer.copy_within(start..start + kept, 0);
+    Progress { written, kept }
 }
 
 // The end of the input: answers the last line, where no line feed ended it and its bytes are the first
@@ -105,5 +58,8 @@ pub fn answer_block(buffer: &mut [u8; INPUT], filled: usize, output: &mut [u8; O
 pub fn answer_last(buffer: &[u8; INPUT], filled: usize, output: &mut [u8; OUTPUT]) -> usize
     ensures { AnswersLast (take filled buffer.now) output.old output.new result }
 {
-    answer_open(buffer, filled, output)
+    match &buffer[..filled.min(INPUT)] {
+        [] => 0,
+        line => put_answer(line, output, 0),
+    }
 }

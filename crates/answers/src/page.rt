@@ -1,10 +1,11 @@
 // A page of lines, the day or refusal of each in a place of its own.
 ghost use Rattle.std.specs.Prelude.{◌≡◌, ◌+◌, ◌/◌, ◌≤◌, length};
 ghost use Rattle.answers.specs.Lines.{lines_of};
-ghost use Rattle.answers.specs.Page.{page_answer, Filled, FillsPage, lines_or_zero, page_refusal};
+ghost use Rattle.answers.specs.Page.{page_answer, Filled, FillsPage};
+ghost use Rattle.calendar.specs.Refusal.{refusal_or_zero};
 
-use crate::feed::{end_from, feeds_at};
-use calendar::refusal::Refusal;
+use crate::feed::{count_feeds, end_from};
+use calendar::refusal::{Refusal, refusal_or_zero};
 use dating::line::number_of_line;
 use places::number::put_number;
 
@@ -12,26 +13,8 @@ use places::number::put_number;
 fn count_lines(page: &[u8]) -> usize
     ensures { result ≡ length (lines_of page.now) }
 {
-    let end = page.len();
-    let mut count = 0;
-    let mut i = 0;
-    while end - i >= 8 {
-        count += feeds_at(page, i);
-        i += 8;
-    }
-    while i < end {
-        if page[i] == b'\n' {
-            count += 1;
-        }
-        i += 1;
-    }
-    if end == 0 {
-        return 0;
-    }
-    if page[end - 1] == b'\n' {
-        return count;
-    }
-    count + 1
+    let unended = page.last().is_some_and(|&last| last != b'\n');
+    count_feeds(page) + usize::from(unended)
 }
 
 // Puts the day or refusal of each line of a page in its place, where there are places enough.
@@ -41,8 +24,9 @@ fn fill_places(page: &[u8], places: &mut [u8])
 {
     let mut place = 0;
     let mut start = 0;
+    // By places and not over chunks of four, since no contract says what a slice holds after its chunks are written.
     while start < page.len() {
-        let end = end_from(page, start);
+        let end = end_from(page, start).unwrap_or(page.len());
         put_number(places, place, number_of_line(&page[start..end]));
         place += 4;
         start = end + 1;
@@ -63,36 +47,19 @@ fn lines_in_size(page: &[u8], size: usize) -> Result<usize, Refusal>
     Ok(count)
 }
 
-// Puts the day or refusal of each line of a page in a place of its own, and answers the number of lines; or refuses by 2 and puts nothing.
+// Puts the day or refusal of each line of a page in a place of its own, and returns the number of lines; or refuses by 2 and puts nothing.
 pub fn fill_page(page: &[u8], places: &mut [u8]) -> Result<usize, Refusal>
     ensures value { result ≡ page_answer page.now (length places.old) }
     ensures fills_page { FillsPage page.now places.old places.new }
 {
-    match lines_in_size(page, places.len()) {
-        Ok(count) => {
-            fill_places(page, places);
-            Ok(count)
-        }
-        Err(refusal) => Err(refusal),
-    }
+    let count = lines_in_size(page, places.len())?;
+    fill_places(page, places);
+    Ok(count)
 }
 
 // Why a page is refused where size bytes of places are lent: 2, or 0 where it is not.
 pub fn page_refusal(page: &[u8], size: usize) -> u32
     ensures { result ≡ refusal_or_zero (page_answer page.now size) }
 {
-    match lines_in_size(page, size) {
-        Ok(_) => 0,
-        Err(refusal) => u32::from(refusal),
-    }
-}
-
-// The number of lines, or 0 where the page is refused.
-pub fn lines_or_zero(answer: Result<usize, Refusal>) -> usize
-    ensures { result ≡ lines_or_zero answer }
-{
-    match answer {
-        Ok(count) => count,
-        Err(_) => 0,
-    }
+    refusal_or_zero(lines_in_size(page, size))
 }

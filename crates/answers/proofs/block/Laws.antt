@@ -5,12 +5,11 @@ use mathlib.Core.Logic.{◌↔◌, ◌⊎◌, inl, inr}
 use mathlib.Core.Path.{◌≡◌, refl, sym, ◌∙◌, ap, subst}
 use Prim.Native.Nat.{ℕ, zero, suc, ◌+◌, ◌-◌, ◌*◌, ◌<◌, ◌≤◌, min}
 use native.Mathlib.Decide.{dec_lt}
-use native.Mathlib.Numerals.{add-one}
 use native.Mathlib.Omega.{arith}
 use lib.Dec.{eqb}
-use lib.ListN.{length, take, drop, get_or, set, length-append, length-take, length-drop}
-use lib.Seq.{length-take-le, take_all, take-length, take-suc, take-append_seam, take-append-le, take-take, take-add, drop-cons, drop_at}
-use lib.Seq.{append_snoc, get_or-append-add, get_or-drop, set-append_seam, sets}
+use lib.ListN.{length, take, drop, length-append, length-drop}
+use lib.Seq.{length-take-le, take_all, take-length, take-append_seam, take-append-le, take-take, take-add, drop_at}
+use lib.Seq.{sets}
 use borrow.Author.Tests.{le-leb}
 use Rattle.words.proofs.text.Laws.{either, neither}
 use Rattle.dating.proofs.answer.Laws.{answer_length, overlong}
@@ -18,14 +17,14 @@ use Rattle.places.proofs.Bytes.{sets_start}
 use Rattle.places.proofs.Turn.{turn_append, turn_one, turn_split}
 use Rattle.answers.proofs.Lines.{lines_from, last_some, ended_append, open_append, parted, open_whole, open_lacks}
 use Rattle.answers.proofs.Walk as walk
-use Rattle.answers.proofs.Walk.{Sofar, sofar_length, all_told, all_left}
+use Rattle.answers.proofs.Walk.{Sofar, sofar_length, passed, line_end, all_told, all_left}
+use Rattle.std.specs.List.{copy_within}
 use Rattle.words.specs.Text.{has, over}
 use Rattle.dating.specs.Answer.{line_feed, IsAnswer, PutsAnswer}
 use Rattle.answers.specs.Block.{kept, Written, AnswersBlock, AnswersLast, joined, Run}
 use Rattle.answers.specs.Lines.{ended_lines, open_line, last_line, Answers}
-use Rattle.answers.specs.Steps.{Quiet, AnswersEnded}
+use Rattle.answers.specs.Steps.{AnswersEnded, between, EndsAt}
 use Rattle.answers.specs.declared.block.Ended.{Ended}
-use Rattle.answers.specs.declared.block.Progress.{Progress}
 
 -- ---- what is kept of a line
 -- two lines are alike where they are one, or both too long
@@ -131,101 +130,66 @@ run_back o (b ∷ bs) t lacks h =
     (a, (u, (rw (kept_lines o b lacks) here, (rw (kept_next o b lacks) there, e))))
 
 -- ---- a block line by line
--- the lines that end in the first i bytes of s are answered, each with at most four times the bytes of the line with its line feed
-pub record Answering (s before : List ℕ) (written start i : ℕ) (after : List ℕ) : Type 0 where
-  pub sofar : Sofar IsAnswer s before written start i after
+-- the lines of s that end before start are answered, each with at most four times the bytes of the line with its line feed
+pub record Answering (s before : List ℕ) (written start : ℕ) (after : List ℕ) : Type 0 where
+  pub sofar : Sofar IsAnswer s before written start start after
   pub small : written ≤ 4 * start
 
-pub at_first : (s before : List ℕ) → Answering s before 0 0 0 before
+pub at_first : (s before : List ℕ) → Answering s before 0 0 before
 at_first s before = record { sofar = walk.at_first IsAnswer s before; small = omega arith }
 
-module _ {s before : List ℕ} {written start i : ℕ} {after : List ℕ} (p : Answering s before written start i after) where
-  pub passed : (j : ℕ) → Quiet s i j → Answering s before written start j after
-  passed j quiet = record { sofar = walk.passed p.sofar j quiet; small = p.small }
+module _ {s before : List ℕ} {written start : ℕ} {after : List ℕ} (p : Answering s before written start after) (room : 4 * length s + 25 ≤ length before) where
+  pub line_answered : {e : ℕ} → EndsAt s start e → e < length s → (now : List ℕ) (r : ℕ) → PutsAnswer (between s start e) written after now r
+      → Answering s before (written + r) (e + 1) now
+  line_answered {e} ends more now r h = go (rw (le-leb (written + 25) (length after) has_room) at h)
+    where
+      has_room : written + 25 ≤ length after
+      has_room = omega (arith, sofar_length p.sofar, p.small, ends.quiet.from)
 
-  module _ (more : i < length s) where
-    pub line_end : 4 * length s + 25 ≤ length before → (now : List ℕ) (r : ℕ) → get_or s i 0 ≡ line_feed
-        → PutsAnswer (take (i - start) (drop start s)) written after now r → Answering s before (written + r) (i + 1) (i + 1) now
-    line_end room now r ends h = go (rw (le-leb (written + 25) (length after) has_room) at h)
-      where
-        has_room : written + 25 ≤ length after
-        has_room = omega (arith, sofar_length p.sofar, p.small, p.sofar.begun)
+      go : (t : List ℕ) × (IsAnswer (between s start e) t × ((r ≡ length t) × (now ≡ sets after written t))) → Answering s before (written + r) (e + 1) now
+      go (t, (told, (count, bytes))) =
+          let from = ends.quiet.from in
+          let small = p.small in
+          let size = length-drop start s in
+          let its_length = length-take-le (e - start) (drop start s) (omega arith) in
+          let few = (answer_length (between s start e) t told).1 in
+          record { sofar = rw count (line_end (passed p.sofar e ends.quiet) more t now (ends.feed more) told bytes); small = omega arith }
 
-        line : List ℕ
-        line = take (i - start) (drop start s)
-
-        go : (t : List ℕ) × (IsAnswer line t × ((r ≡ length t) × (now ≡ sets after written t)))
-            → Answering s before (written + r) (i + 1) (i + 1) now
-        go (t, (told, (count, bytes))) =
-            let begun = p.sofar.begun in
-            let small = p.small in
-            let size = length-drop start s in
-            let its_length = length-take-le (i - start) (drop start s) (omega arith) in
-            let few = (answer_length line t told).1 in
-            record { sofar = rw count (walk.line_end p.sofar more t now ends told bytes); small = omega arith }
-
-  pub all_ended : length s ≤ i → 4 * length s + 25 ≤ length before → AnswersEnded s before after (record { written = written; start = start })
-  all_ended end room =
-      let begun = p.sofar.begun in
-      let inside = p.sofar.inside in
+  pub all_answered : EndsAt s start (length s) → AnswersEnded s before after (record { written = written; start = start })
+  all_answered ends =
+      let whole = passed p.sofar (length s) ends.quiet in
+      let from = ends.quiet.from in
       let small = p.small in
-      let count = p.sofar.count in
+      let count = whole.count in
       record {
         output = record {
-          text = p.sofar.text;
-          answers = all_told p.sofar end;
+          text = whole.text;
+          answers = all_told whole (omega arith);
           room = omega arith;
           count = count;
-          bytes = p.sofar.output ∙ sets_start p.sofar.text before (omega arith);
+          bytes = whole.output ∙ sets_start whole.text before (omega arith);
         };
-        inside = omega arith;
-        left = all_left p.sofar end;
+        inside = from;
+        left = all_left whole (omega arith);
       }
 
 -- ---- bytes moved to the start
-over_byte : (w s : List ℕ) (i x : ℕ) → length w ≡ i → i < length s → set (over w s) i x ≡ over (w ++ x ∷ []) s
-over_byte w s i x e h =
-    let more = length-append w (x ∷ []) in
-    let k : length (w ++ x ∷ []) ≡ suc (length w) = omega arith in
-    rw (← e, drop-cons s (length w) 0 (omega arith), k)
-    (set-append_seam w (get_or s (length w) 0) (drop (suc (length w)) s) x ∙ sym (append_snoc w x (drop (suc (length w)) s)))
-
-module _ (s : List ℕ) (from i : ℕ) (inside : from + i < length s) where
-  abbrev sofar : List ℕ
-  sofar = take i (drop from s)
-
-  size : length sofar ≡ i
-  size = let l = length-drop from s in length-take-le i (drop from s) (omega arith)
-
-  -- what is read has not been written to
-  still : get_or (over sofar s) (from + i) 0 ≡ get_or s (from + i) 0
-  still =
-      let k : from + i ≡ length sofar + from = omega (arith, size) in
-      let j : length sofar + from ≡ from + i = omega (arith, size) in
-      rw k (get_or-append-add sofar (drop (length sofar) s) from 0) ∙ get_or-drop (length sofar) s from 0 ∙ rw j
-
-  pub moved : set (over sofar s) i (get_or (over sofar s) (from + i) 0) ≡ over (take (i + 1) (drop from s)) s
-  moved =
-      let l = length-drop from s in
-      let next = take-suc (drop from s) i 0 (omega arith) in
-      rw (still, add-one, next, get_or-drop from s i 0) (over_byte sofar s i (get_or s (from + i) 0) size (omega arith))
-
-over_length : (w s : List ℕ) → length w ≤ length s → length (over w s) ≡ length s
-over_length w s h = let a = length-append w (drop (length w) s) in let b = length-drop (length w) s in omega arith
+moved : (b : List ℕ) (start k : ℕ) → start + k ≤ length b → copy_within b start (start + k) 0 ≡ over (take k (drop start b)) b
+moved b start k inside =
+    let count : start + k - start ≡ k = omega arith in
+    let place : 0 + k ≡ k = omega arith in
+    rw (count, place, length-take-le k (drop start b) (omega (arith, length-drop start b)))
 
 -- ---- the bytes that a buffer is filled with
-filled_part : (n : ℕ) (s : List ℕ) → take (min n (length s)) s ≡ take n s
-filled_part n s =
-    elim (dec_lt n (length s)) [
-      | yes h ↦ let e : min n (length s) ≡ n = omega arith in rw e
-      | no h ↦ let e : min n (length s) ≡ length s = omega arith in rw e (take-length s) ∙ sym (take_all n s (omega arith))
-    ]
-
-module _ (n : ℕ) (b : List ℕ) {e : ℕ} (part : e ≡ min n (length b)) where
+module _ (n : ℕ) (b : List ℕ) {size e : ℕ} (room : length b ≡ size) (part : e ≡ min n size) where
   front : take e b ≡ take n b
-  front = rw part (filled_part n b)
+  front =
+      elim (dec_lt n (length b)) [
+        | yes h ↦ let all : e ≡ n = omega arith in rw all
+        | no h ↦ let all : e ≡ length b = omega arith in rw all (take-length b) ∙ sym (take_all n b (omega arith))
+      ]
 
-  pub front_length : length (take e b) ≡ e
+  front_length : length (take e b) ≡ e
   front_length = length-take-le e b (omega arith)
 
   -- what is kept of the open line, moved to the start
@@ -245,7 +209,7 @@ module _ (n : ℕ) (b : List ℕ) {e : ℕ} (part : e ≡ min n (length b)) wher
       ]
 
   pub block_answered : {o p m : List ℕ} {r : Ended} {k : ℕ} → AnswersEnded (take e b) o p r → k ≡ min (e - r.start) 121
-      → m ≡ over (take k (drop r.start b)) b → AnswersBlock (take n b) b m o p (record { written = r.written; kept = k })
+      → m ≡ copy_within b r.start (r.start + k) 0 → AnswersBlock (take n b) b m o p (record { written = r.written; kept = k })
   block_answered {r = r} {k} h least moves =
       let fits = front_length in
       let inside : r.start ≤ e = omega (arith, h.inside) in
@@ -255,22 +219,18 @@ module _ (n : ℕ) (b : List ℕ) {e : ℕ} (part : e ≡ min n (length b)) wher
       rw (← front) (record {
         output = h.output;
         keeps = sym count ∙ ap length keeps;
-        buffer = moves ∙ ap (λ (w : List ℕ). over w b) keeps;
+        buffer = moves ∙ moved b r.start k (omega arith) ∙ ap (λ (w : List ℕ). over w b) keeps;
       })
 
-  pub no_line : (o : List ℕ) → e ≡ 0 → AnswersLast (take n b) o o 0
-  no_line o z = rw (← front, z) (record { text = []; answers = refl; room = omega arith; count = refl; bytes = refl })
-
-  pub last_answered : (o p : List ℕ) (r : ℕ) → (e ≡ 0 → ⊥) → 25 ≤ length o → PutsAnswer (take e b) 0 o p r → AnswersLast (take n b) o p r
+  pub last_answered : (o p : List ℕ) (r : ℕ) → 1 ≤ length (take e b) → 25 ≤ length o → PutsAnswer (take e b) 0 o p r → AnswersLast (take n b) o p r
   last_answered o p r some room h = go (rw (le-leb 25 (length o) room) at h)
     where
       go : (t : List ℕ) × (IsAnswer (take e b) t × ((r ≡ length t) × (p ≡ sets o 0 t))) → AnswersLast (take n b) o p r
       go (t, (told, (count, bytes))) =
-          let long = front_length in
           let few = (answer_length (take e b) t told).0 in
           rw (← front) (record {
             text = t;
-            answers = rw (last_some (take e b) (omega arith)) (turn_one IsAnswer (take e b) t told);
+            answers = rw (last_some (take e b) some) (turn_one IsAnswer (take e b) t told);
             room = omega arith;
             count = count;
             bytes = bytes ∙ sets_start t o (omega arith);
@@ -282,17 +242,6 @@ pub one_written : (output : List ℕ → Type 0) → ((t u : List ℕ) → outpu
 one_written output one o p q n m h k =
     let text = one h.text k.text h.answers k.answers in
     (h.count ∙ ap length text ∙ sym k.count, h.bytes ∙ ap (λ (t : List ℕ). over t o) text ∙ sym k.bytes)
-
--- ---- lengths
-pub written_length : {output : List ℕ → Type 0} {o p : List ℕ} {n : ℕ} → Written output o p n → (length p ≡ length o) × (n ≤ length o)
-written_length {o = o} h =
-    let all = ap length h.bytes ∙ over_length h.text o h.room in
-    (all, omega (arith, h.count, h.room))
-
-pub kept_length : {s b m o p : List ℕ} {r : Progress} → AnswersBlock s b m o p r → 121 ≤ length b → (length m ≡ length b) × (r.kept ≤ 121)
-kept_length {s} {b} h room =
-    let few = length-take 121 (open_line [] s) in
-    (ap length h.buffer ∙ over_length (kept (open_line [] s)) b (omega arith), omega (arith, h.keeps))
 
 -- ---- what a call leaves in its buffers is a step of the run
 pub written_text : {output : List ℕ → Type 0} {o p : List ℕ} {n : ℕ} → Written output o p n → output (take n p)

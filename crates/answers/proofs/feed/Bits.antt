@@ -1,6 +1,6 @@
 -- Line feeds told by the bits of a number: each operation acts on every byte of it apart, so what it does to one byte says what it does to all.
 use mathlib.Core.Bool.{Bool, cond}
-use mathlib.Core.List.{List, [], ◌∷◌}
+use mathlib.Core.List.{List, [], ◌∷◌, ◌++◌}
 use mathlib.Core.Logic.{inl, inr}
 use mathlib.Core.Path.{◌≡◌, refl, sym, ◌∙◌, ap}
 use Prim.Native.Nat.{ℕ, zero, suc, ◌+◌, ◌-◌, ◌*◌, ◌/◌, ◌%◌, ◌^◌, ◌<◌, ◌≤◌}
@@ -10,14 +10,17 @@ use native.Mathlib.Omega.{arith}
 use lib.Bits.{bit_and, bit_or, bit_xor, and_block, or_block, xor_block, and_le_l, and_le_r, or_add_and, or_lt, xor_lt, shifted_half, shifted_even}
 use lib.Count.{ones, ones_in, count_trailing_zeros, ones_cat}
 use lib.Dec.{eqb, ltb}
-use lib.ListN.{length, take, drop, get_or, length-drop}
-use lib.Seq.{length-take-le}
-use borrow.Author.Tests.{eqb-true}
+use lib.ListN.{length, take, drop, get_or, length-drop, take-append-drop, length-append}
+use lib.Seq.{length-take-le, take_all, drop-cons}
+use borrow.Author.Tests.{eqb-true, lt-ltb}
 use Rattle.calendar.proofs.Each.{below, is_true}
 use Rattle.words.proofs.text.Laws.{either}
-use Rattle.answers.proofs.feed.Laws.{before_feed, before_eight, feeds_eight, feed_before, bytes_at}
+use Rattle.answers.proofs.feed.Laws.{before_feed, before_few, before_append, before_both}
+use Rattle.std.specs.Int.{w64, from_le_bytes}
+use Rattle.std.specs.Prelude.{Some, None}
+use Rattle.std.specs.Simd.{first_chunks}
 use Rattle.dating.specs.Answer.{line_feed}
-use Rattle.answers.specs.Steps.{feeds, feed_bits}
+use Rattle.answers.specs.Steps.{feeds, feed_bits, first_feed}
 
 -- bytes as digits of a number, the first the lowest
 unfoldable pub packed : List ℕ → ℕ
@@ -33,9 +36,27 @@ abbrev AllBytes : List ℕ → Type 0
 AllBytes [] = Unit
 AllBytes (c ∷ s) = (c < 256) × AllBytes s
 
-pub all_bytes : (s : List ℕ) → ((j : ℕ) → get_or s j 0 < 256) → (i k n : ℕ) → AllBytes (bytes_at s i k n)
-all_bytes s b i k zero = tt
-all_bytes s b i k (suc n) = (b (i + k), all_bytes s b i (suc k) n)
+pub all_bytes : (s : List ℕ) → ((j : ℕ) → get_or s j 0 < 256) → AllBytes s
+all_bytes [] b = tt
+all_bytes (c ∷ s) b = (b 0, all_bytes s (λ j. b (suc j)))
+
+-- the n bytes of s from the place k on, written out
+abbrev bytes_at : List ℕ → (k n : ℕ) → List ℕ
+bytes_at s k zero = []
+bytes_at s k (suc n) = get_or s k 0 ∷ bytes_at s (suc k) n
+
+written_out : (s : List ℕ) (k n : ℕ) → k + n ≤ length s → take n (drop k s) ≡ bytes_at s k n
+written_out s k zero fits = refl
+written_out s k (suc n) fits =
+    rw (drop-cons s k 0 (omega arith)) (ap (λ (t : List ℕ). get_or s k 0 ∷ t) (written_out s (suc k) n (omega arith)))
+
+-- as the library packs eight
+pub packed_eight : (s : List ℕ) → length s ≡ 8 → from_le_bytes w64 s ≡ packed s
+unfolding packed
+packed_eight s size =
+    let all = sym (take_all 8 s (omega arith)) ∙ written_out s 0 8 (omega arith) in
+    let sum : from_le_bytes w64 s ≡ packed (bytes_at s 0 8) = omega arith in
+    sum ∙ ap packed (sym all)
 
 -- what the code works out of n bytes that are packed, by the code's names
 abbrev differs : ℕ → ℕ → ℕ
@@ -114,18 +135,23 @@ count_bits (c ∷ s) =
       | inr e ↦ rw (e, ones_cat 8 (feed_bits s) 0 (omega arith)) (omega (arith, count_bits s))
     ]
 
--- so there are none just where the number is 0
-bits_none : (s : List ℕ) → feed_bits s ≡ 0 → feeds s ≡ 0
-unfolding ones ones_in
-bits_none s z = sym (count_bits s) ∙ ap ones z
-
-feeds_none : (s : List ℕ) → feeds s ≡ 0 → feed_bits s ≡ 0
-unfolding feed_bits feeds
-feeds_none [] z = refl
-feeds_none (c ∷ s) z =
+-- the number is 0 just where all bytes stand before a line feed
+none_all : (s : List ℕ) → feed_bits s ≡ 0 → before_feed s ≡ length s
+unfolding feed_bits
+none_all [] z = refl
+none_all (c ∷ s) z =
     elim (either (eqb c line_feed)) [
       | inl e ↦ absurd (omega (arith, rw e at z))
-      | inr e ↦ rw (e, feeds_none s (omega (arith, rw e at z)))
+      | inr e ↦ rw e (omega (arith, none_all s (omega (arith, rw e at z))))
+    ]
+
+all_none : (s : List ℕ) → before_feed s ≡ length s → feed_bits s ≡ 0
+unfolding feed_bits
+all_none [] h = refl
+all_none (c ∷ s) h =
+    elim (either (eqb c line_feed)) [
+      | inl e ↦ absurd (omega (arith, rw e at h))
+      | inr e ↦ rw e (omega (arith, all_none s (omega (arith, rw e at h))))
     ]
 
 or_none : (a b : ℕ) → bit_or a b ≡ 0 → (a ≡ 0) × (b ≡ 0)
@@ -138,7 +164,7 @@ trailing_shift (suc k) m a =
     let size : suc k + m ≡ suc (k + m) = omega arith in rw (size, shifted_even a k, shifted_half a k, trailing_shift k m a) (omega arith)
 
 first_bit : (s : List ℕ) → count_trailing_zeros (length s * 8) (feed_bits s) / 8 ≡ before_feed s
-unfolding feed_bits before_feed count_trailing_zeros
+unfolding feed_bits count_trailing_zeros
 first_bit [] = refl
 first_bit (c ∷ s) =
     let x = feed_bits s in
@@ -155,48 +181,71 @@ first_bit (c ∷ s) =
     ]
 
 -- ---- twenty-four bytes
-module _ (s : List ℕ) (i : ℕ) (fits : i + 24 ≤ length s) where
-  abbrev all : List ℕ
-  all = take 24 (drop i s)
+module _ (s : List ℕ) (size : length s ≡ 24) {eights : List (List ℕ)} (cut : eights ≡ first_chunks 8 (length s / 8) s) {x y z : ℕ}
+    (a : x ≡ feed_bits (get_or eights 0 [])) (b : y ≡ feed_bits (get_or eights 1 [])) (c : z ≡ feed_bits (get_or eights 2 [])) where
+  abbrev first : List ℕ
+  first = take 8 s
 
-  abbrev eight : ℕ → List ℕ
-  eight k = take 8 (drop k s)
+  abbrev second : List ℕ
+  second = take 8 (drop 8 s)
 
-  last : i + 8 + 8 ≡ i + 16
-  last = omega arith
+  abbrev third : List ℕ
+  third = take 8 (drop 8 (drop 8 s))
 
-  counted : feeds all ≡ feeds (eight i) + (feeds (eight (i + 8)) + feeds (eight (i + 16)))
-  counted = rw (feeds_eight s i 16, feeds_eight s (i + 8) 8, last)
+  cuts : eights ≡ first ∷ second ∷ third ∷ []
+  cuts = let three : length s / 8 ≡ 3 = omega arith in rw three at cut
 
-  first_of : (k : ℕ) → k + 8 ≤ length s → count_trailing_zeros 64 (feed_bits (eight k)) / 8 ≡ before_feed (eight k)
-  first_of k room = let size = length-take-le 8 (drop k s) (omega (arith, length-drop k s)) in rw size at (first_bit (eight k))
+  rest_size : length (drop 8 (drop 8 s)) ≡ 8
+  rest_size = omega (arith, length-drop 8 s, length-drop 8 (drop 8 s))
 
-  module _ {x y z : ℕ} (a : x ≡ feed_bits (eight i)) (b : y ≡ feed_bits (eight (i + 8))) (c : z ≡ feed_bits (eight (i + 16))) where
-    pub no_bit : bit_or (bit_or x y) z ≡ 0 → feeds all ≡ 0
-    no_bit h =
-        let p = or_none (bit_or x y) z h in
-        let q = or_none x y p.0 in
-        let none = bits_none (eight (i + 16)) (sym c ∙ p.1) in
-        omega (arith, counted, bits_none (eight i) (sym a ∙ q.0), bits_none (eight (i + 8)) (sym b ∙ q.1), none)
+  sizes : (length first ≡ 8) × (length second ≡ 8) × (length third ≡ 8)
+  sizes = (
+    length-take-le 8 s (omega arith),
+    length-take-le 8 (drop 8 s) (omega (arith, length-drop 8 s)),
+    length-take-le 8 (drop 8 (drop 8 s)) (omega (arith, rest_size)),
+  )
 
-    pub some_bit : 0 < bit_or (bit_or x y) z → before_feed all < 24
-    some_bit h =
-        let size = length-take-le 24 (drop i s) (omega (arith, length-drop i s)) in
-        elim (dec_lt 0 (feeds all)) [
-          | yes more ↦ omega (arith, feed_before all more, size)
-          | no none ↦
-              let p = a ∙ feeds_none (eight i) (omega (arith, counted)) in
-              let q = b ∙ feeds_none (eight (i + 8)) (omega (arith, counted)) in
-              let r = c ∙ feeds_none (eight (i + 16)) (omega (arith, counted)) in
-              absurd (omega (arith, rw (p, q, r) at h))
+  whole : s ≡ first ++ (second ++ third)
+  whole =
+      let last = take_all 8 (drop 8 (drop 8 s)) (omega (arith, rest_size)) in
+      sym (ap (λ (t : List ℕ). first ++ (second ++ t)) last ∙ ap (λ (t : List ℕ). first ++ t) (take-append-drop 8 (drop 8 s)) ∙ take-append-drop 8 s)
+
+  before_whole : before_feed s
+      ≡ cond (ltb (before_feed first) 8) (before_feed first) (8 + cond (ltb (before_feed second) 8) (before_feed second) (8 + before_feed third))
+  before_whole = ap before_feed whole ∙ rw (before_append first (second ++ third), before_append second third, sizes.0, sizes.1)
+
+  bits_first : (x ≡ feed_bits first) × (y ≡ feed_bits second) × (z ≡ feed_bits third)
+  bits_first = (rw cuts at a, rw cuts at b, rw cuts at c)
+
+  pub none_first : bit_or (bit_or x y) z ≡ 0 → None ≡ first_feed s
+  none_first h =
+      let p = or_none (bit_or x y) z h in
+      let q = or_none x y p.0 in
+      let i = none_all first (sym bits_first.0 ∙ q.0) ∙ sizes.0 in
+      let j = none_all second (sym bits_first.1 ∙ q.1) ∙ sizes.1 in
+      let k = none_all third (sym bits_first.2 ∙ p.1) ∙ sizes.2 in
+      let all = rw (i, j, k) at before_whole in
+      rw (all, size)
+
+  full : 24 ≤ before_feed s → bit_or (bit_or x y) z ≡ 0
+  full h =
+      let few = before_few s in
+      let p = before_both first (second ++ third) (ap before_feed (sym whole) ∙ omega (arith, sizes, length-append second third)) in
+      let q = before_both second third (p.1 ∙ length-append second third) in
+      rw (bits_first.0, bits_first.1, bits_first.2, all_none first p.0, all_none second q.0, all_none third q.1)
+
+  module _ {p q t later r : ℕ} (v : q ≡ count_trailing_zeros 64 y / 8) (w : t ≡ count_trailing_zeros 64 z / 8) (l : later ≡ cond (ltb q 8) q (8 + t))
+      (u : p ≡ count_trailing_zeros 64 x / 8) (e : r ≡ cond (ltb p 8) p (8 + later)) where
+    before_is : r ≡ before_feed s
+    before_is =
+        let i = rw sizes.0 at (first_bit first) in
+        let j = rw sizes.1 at (first_bit second) in
+        let k = rw sizes.2 at (first_bit third) in
+        rw (e, l, u, v, w, bits_first.0, bits_first.1, bits_first.2, i, j, k) (sym before_whole)
+
+    pub some_first : (bit_or (bit_or x y) z ≡ 0 → ⊥) → Some r ≡ first_feed s
+    some_first some =
+        elim (dec_lt (before_feed s) 24) [
+          | yes few ↦ let inside = lt-ltb (before_feed s) 24 few in rw (before_is, size, inside)
+          | no all ↦ absurd (some (full (omega arith)))
         ]
-
-    -- how many of the sixteen behind the first eight stand before a line feed, and how many of all
-    module _ {q t later : ℕ} (v : q ≡ count_trailing_zeros 64 y / 8) (w : t ≡ count_trailing_zeros 64 z / 8) (l : later ≡ cond (ltb q 8) q (8 + t)) where
-      pub before_later : later ≡ before_feed (take 16 (drop (i + 8) s))
-      before_later =
-          rw (l, v, w, b, c, first_of (i + 8) (omega arith), first_of (i + 16) (omega arith))
-          (sym (rw last at (before_eight s (i + 8) 8 (omega arith))))
-
-      pub before_all : {p r : ℕ} → p ≡ count_trailing_zeros 64 x / 8 → r ≡ cond (ltb p 8) p (8 + later) → r ≡ before_feed all
-      before_all u e = rw (e, u, a, first_of i (omega arith), before_later) (sym (before_eight s i 16 (omega arith)))

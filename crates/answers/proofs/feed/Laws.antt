@@ -1,23 +1,29 @@
 -- Line feeds counted, and bytes without one.
-use mathlib.Core.Bool.{Bool, true, false, cond}
+use mathlib.Core.Bool.{false, not, cond}
 use mathlib.Core.List.{List, [], ◌∷◌, ◌++◌}
 use mathlib.Core.Logic.{inl, inr}
-use mathlib.Core.Path.{◌≡◌, refl, ap}
-use Prim.Native.Nat.{ℕ, zero, suc, ◌+◌, ◌-◌, ◌<◌, ◌≤◌}
-use native.Mathlib.Numerals.{add-one}
+use mathlib.Core.Path.{◌≡◌, refl, sym, ◌∙◌, ap}
+use Prim.Native.Nat.{ℕ, zero, suc, ◌+◌, ◌-◌, ◌*◌, ◌/◌, ◌<◌, ◌≤◌}
+use native.Mathlib.Decide.{dec_lt}
 use native.Mathlib.Omega.{arith}
-use lib.Dec.{eqb, ltb, leb-suc-suc}
-use lib.ListN.{length, take, drop, get_or, length-drop}
-use lib.Seq.{length-take-le, take-add, drop-cons, drop-drop}
-use borrow.Author.Tests.{eqb-true, eqb-false, ne_eqb, lt-ltb}
-use Rattle.words.proofs.text.Laws.{either, has_append}
+use lib.Dec.{eqb, ltb}
+use lib.ListN.{length, take, drop, get_or, length-drop, take-append-drop}
+use lib.Seq.{length-take-le, take-add, take-take, drop-drop, get_or-drop}
+use borrow.Author.Tests.{eqb-true, eq-eqb, ne_eqb, lt-ltb, le-ltb}
+use Rattle.std.proofs.lemmas.List.Sums.{sum_by-cons, prefix_len-le-length, passes_at_first}
+use Rattle.std.proofs.lemmas.List.Folds.{prefix_len-append}
+use Rattle.words.proofs.text.Laws.{either, has_append, rest}
+use Rattle.std.specs.Array.{IsFirstChunk}
+use Rattle.std.specs.List.{sum_by, count_by, position_or_len}
+use Rattle.std.specs.Prelude.{Option, Some, None, MatchOption}
+use Rattle.std.specs.Simd.{first_chunks}
 use Rattle.words.specs.Text.{has}
 use Rattle.dating.specs.Answer.{line_feed}
 use Rattle.answers.specs.Lines.{ended_lines}
-use Rattle.answers.specs.Steps.{feeds, between, Quiet, EndsAt}
+use Rattle.answers.specs.Steps.{feeds, first_feed, between, Quiet, EndsAt}
 
 -- ---- line feeds
-pub feeds_append : (a b : List ℕ) → feeds (a ++ b) ≡ feeds a + feeds b
+feeds_append : (a b : List ℕ) → feeds (a ++ b) ≡ feeds a + feeds b
 unfolding feeds
 feeds_append [] b = omega arith
 feeds_append (c ∷ a) b = rw (feeds_append a b) (omega arith)
@@ -31,6 +37,28 @@ feeds_few (c ∷ s) =
       | inr e ↦ rw e (omega (arith, feeds_few s))
     ]
 
+-- as the library counts them
+feeds_counted : (s : List ℕ) → count_by (λ c. eqb c line_feed) s ≡ feeds s
+unfolding feeds
+feeds_counted [] = refl
+feeds_counted (c ∷ s) = sum_by-cons (λ c. cond (eqb c line_feed) 1 0) c s ∙ ap (λ (n : ℕ). cond (eqb c line_feed) 1 0 + n) (feeds_counted s)
+
+-- and in eights
+feeds_eights : (k : ℕ) (s : List ℕ) → sum_by feeds (first_chunks 8 k s) + feeds (drop (k * 8) s) ≡ feeds s
+feeds_eights zero s = omega arith
+feeds_eights (suc k) s =
+    let first = take 8 s in
+    let others = drop 8 s in
+    let place : 8 + k * 8 ≡ suc k * 8 = omega arith in
+    let rest = ap feeds (rw place at (drop-drop (k * 8) 8 s)) in
+    let whole = ap feeds (take-append-drop 8 s) in
+    omega (arith, sum_by-cons feeds first (first_chunks 8 k others), feeds_eights k others, rest, feeds_append first others, whole)
+
+pub feeds_parted : (s : List ℕ)
+    → let n = length s / 8 in
+    sum_by feeds (first_chunks 8 n s) + count_by (λ c. eqb c line_feed) (drop (n * 8) s) ≡ feeds s
+feeds_parted s = rw (feeds_counted (drop (length s / 8 * 8) s)) (feeds_eights (length s / 8) s)
+
 -- lines end by line feeds alone
 pub ended_feeds : (p s : List ℕ) → length (ended_lines p s) ≡ feeds s
 unfolding ended_lines feeds
@@ -40,22 +68,6 @@ ended_feeds p (c ∷ s) =
       | inl e ↦ rw e (omega (arith, ended_feeds [] s))
       | inr e ↦ rw e (omega (arith, ended_feeds (p ++ c ∷ []) s))
     ]
-
-no_feeds : (s : List ℕ) → feeds s ≡ 0 → has line_feed s ≡ false
-unfolding feeds has
-no_feeds [] z = refl
-no_feeds (c ∷ s) z =
-    elim (either (eqb c line_feed)) [
-      | inl e ↦ absurd (omega (arith, rw e at z))
-      | inr e ↦ rw e (no_feeds s (omega (arith, rw e at z)))
-    ]
-
-next : (s : List ℕ) (i : ℕ) → i < length s → drop i s ≡ get_or s i 0 ∷ drop (i + 1) s
-next s i more = rw add-one (drop-cons s i 0 more)
-
-pub one_feed : (s : List ℕ) (i : ℕ) → i < length s → feeds (take 1 (drop i s)) ≡ cond (eqb (get_or s i 0) line_feed) 1 0
-unfolding feeds
-one_feed s i more = rw (next s i more) (omega arith)
 
 -- ---- bytes without a line feed
 pub quiet_first : (s : List ℕ) (i : ℕ) → i ≤ length s → Quiet s i i
@@ -70,11 +82,11 @@ module _ {s : List ℕ} {i j : ℕ} (q : Quiet s i j) where
       let at : i + (j - i) ≡ j = omega arith in
       rw (size, take-add (j - i) n (drop i s), drop-drop (j - i) i s, at)
 
-  pub quiet_on : (n : ℕ) → j + n ≤ length s → feeds (take n (drop j s)) ≡ 0 → Quiet s i (j + n)
+  quiet_on : (n : ℕ) → j + n ≤ length s → has line_feed (take n (drop j s)) ≡ false → Quiet s i (j + n)
   quiet_on n fits none = record {
     from = omega (arith, q.from);
     inside = fits;
-    lacks = rw (longer n) (has_append line_feed (between s i j) (take n (drop j s)) q.lacks (no_feeds (take n (drop j s)) none));
+    lacks = rw (longer n) (has_append line_feed (between s i j) (take n (drop j s)) q.lacks none);
   }
 
   -- where a line that begins at j ends, one that begins at i does too
@@ -82,97 +94,115 @@ module _ {s : List ℕ} {i j : ℕ} (q : Quiet s i j) where
   ends_on {k} e =
       let to = e.quiet.from in
       let whole : j + (k - j) ≡ k = omega arith in
-      let together : between s i k ≡ between s i j ++ between s j k = rw whole at (longer (k - j)) in
-      let lacks = has_append line_feed (between s i j) (between s j k) q.lacks e.quiet.lacks in
-      record { quiet = record { from = omega (arith, q.from); inside = e.quiet.inside; lacks = rw together lacks }; feed = e.feed }
-
-  pub quiet_byte : j < length s → (get_or s j 0 ≡ line_feed → ⊥) → Quiet s i (j + 1)
-  quiet_byte more other = quiet_on 1 (omega arith) (rw (one_feed s j more, ne_eqb (get_or s j 0) line_feed other))
+      let lacks : has line_feed (take (k - j) (drop j s)) ≡ false = e.quiet.lacks in
+      record { quiet = rw whole at (quiet_on (k - j) (omega (arith, e.quiet.inside)) lacks); feed = e.feed }
 
 -- ---- bytes before a line feed
 -- how many there are, all where there is no line feed
-unfoldable pub before_feed : List ℕ → ℕ
-before_feed [] = 0
-before_feed (c ∷ s) = cond (eqb c line_feed) 0 (suc (before_feed s))
+abbrev pub before_feed : List ℕ → ℕ
+before_feed s = position_or_len (λ c. eqb c line_feed) s
 
--- r of the n bytes of s from the place j on stand before a line feed, and so do those from i up to j
-pub record Before (s : List ℕ) (i j n r : ℕ) : Type 0 where
-  pub quiet : Quiet s i (j + r)
-  pub most : r ≤ n
-  pub feed : r < n → get_or s (j + r) 0 ≡ line_feed
+pub before_few : (s : List ℕ) → before_feed s ≤ length s
+before_few s = prefix_len-le-length _ s
 
-pub before : (s : List ℕ) (i j n : ℕ) → Quiet s i j → j + n ≤ length s → Before s i j n (before_feed (take n (drop j s)))
-unfolding before_feed
-before s i j zero q fits = let same : j + 0 ≡ j = omega arith in record { quiet = rw same q; most = omega arith; feed = λ h. absurd (omega arith) }
-before s i j (suc n) q fits =
-    elim (either (eqb (get_or s j 0) line_feed)) [
-      | inl e ↦
-          let same : j + 0 ≡ j = omega arith in
-          rw (next s j (omega arith), e) (record { quiet = rw same q; most = omega arith; feed = λ h. rw same (eqb-true (get_or s j 0) line_feed e) })
-      | inr e ↦
-          let later = before s i (j + 1) n (quiet_byte q (omega arith) (eqb-false (get_or s j 0) line_feed e)) (omega arith) in
-          let r = before_feed (take n (drop (j + 1) s)) in
-          let place : j + suc r ≡ j + 1 + r = omega arith in
-          rw (next s j (omega arith), e) (record {
-            quiet = rw place later.quiet;
-            most = omega (arith, later.most);
-            feed = λ h. rw place (later.feed (omega arith));
-          })
+pub before_append : (a b : List ℕ) → before_feed (a ++ b) ≡ cond (ltb (before_feed a) (length a)) (before_feed a) (length a + before_feed b)
+before_append a b =
+    let whole = prefix_len-append (λ c. not (eqb c line_feed)) a b in
+    let few = before_few a in
+    elim (dec_lt (before_feed a) (length a)) [
+      | yes inside ↦ rw (whole, lt-ltb (before_feed a) (length a) inside, ne_eqb (before_feed a) (length a) (λ e. omega arith))
+      | no all ↦ rw (whole, le-ltb (before_feed a) (length a) (omega arith), eq-eqb (before_feed a) (length a) (omega arith))
     ]
 
-pub before_most : (n : ℕ) (s : List ℕ) → before_feed (take n s) ≤ n
-unfolding before_feed
-before_most zero s = omega arith
-before_most (suc n) [] = omega arith
-before_most (suc n) (c ∷ s) =
+-- all stand before it together where all of each do
+pub before_both : (a b : List ℕ) → before_feed (a ++ b) ≡ length a + length b → (before_feed a ≡ length a) × (before_feed b ≡ length b)
+before_both a b h =
+    let whole = before_append a b in
+    let first = before_few a in
+    let second = before_few b in
+    elim (dec_lt (before_feed a) (length a)) [
+      | yes inside ↦ let one = rw (lt-ltb (before_feed a) (length a) inside) at whole in absurd (omega arith)
+      | no all ↦ let both = rw (le-ltb (before_feed a) (length a) (omega arith)) at whole in (omega arith, omega arith)
+    ]
+
+front_lacks : (s : List ℕ) → has line_feed (take (before_feed s) s) ≡ false
+unfolding has
+front_lacks [] = refl
+front_lacks (c ∷ s) =
     elim (either (eqb c line_feed)) [
-      | inl e ↦ rw e (omega arith)
-      | inr e ↦ rw e (omega (arith, before_most n s))
+      | inl e ↦ rw e
+      | inr e ↦ let more : 1 + before_feed s ≡ suc (before_feed s) = omega arith in rw (e, more, e) (front_lacks s)
     ]
 
-before_append : (a b : List ℕ) → before_feed (a ++ b) ≡ cond (ltb (before_feed a) (length a)) (before_feed a) (length a + before_feed b)
-unfolding before_feed
-before_append [] b = omega arith
-before_append (c ∷ a) b =
-    elim (either (eqb c line_feed)) [
-      | inl e ↦ rw (e, lt-ltb 0 (suc (length a)) (omega arith))
-      | inr e ↦ rw (e, leb-suc-suc (suc (before_feed a)) (length a), before_append a b)
-          (one_more (ltb (before_feed a) (length a)) (before_feed a) (before_feed b))
-    ]
-  where
-    one_more : (t : Bool) (x y : ℕ) → suc (cond t x (length a + y)) ≡ cond t (suc x) (suc (length a) + y)
-    one_more true x y = refl
-    one_more false x y = omega arith
+feed_there : (s : List ℕ) → before_feed s < length s → get_or s (before_feed s) 0 ≡ line_feed
+feed_there s h = eqb-true (get_or s (before_feed s) 0) line_feed (passes_at_first (λ c. eqb c line_feed) s 0 h)
 
--- eight bytes, and those behind them
-pub before_eight : (s : List ℕ) (i n : ℕ) → i + 8 ≤ length s
-    → let eight = before_feed (take 8 (drop i s)) in
-    before_feed (take (8 + n) (drop i s)) ≡ cond (ltb eight 8) eight (8 + before_feed (take n (drop (i + 8) s)))
-before_eight s i n fits =
-    let size = length-take-le 8 (drop i s) (omega (arith, length-drop i s)) in
-    rw (take-add 8 n (drop i s), drop-drop 8 i s, before_append (take 8 (drop i s)) (take n (drop (i + 8) s)), size)
+-- the line that begins at a place ends after the bytes before a line feed
+ends_first : (s : List ℕ) (i : ℕ) → i ≤ length s → EndsAt s i (i + before_feed (drop i s))
+ends_first s i inside =
+    let t = drop i s in
+    let n = before_feed t in
+    let few = before_few t in
+    let size = length-drop i s in
+    let count : i + n - i ≡ n = omega arith in
+    record {
+      quiet = record { from = omega arith; inside = omega arith; lacks = rw count (front_lacks t) };
+      feed = λ more. rw (get_or-drop i s n 0) at (feed_there t (omega arith));
+    }
 
-pub feeds_eight : (s : List ℕ) (i n : ℕ) → feeds (take (8 + n) (drop i s)) ≡ feeds (take 8 (drop i s)) + feeds (take n (drop (i + 8) s))
-feeds_eight s i n = rw (take-add 8 n (drop i s), drop-drop 8 i s) (feeds_append (take 8 (drop i s)) (take n (drop (i + 8) s)))
-
--- where there is a line feed, fewer than all stand before it
-pub feed_before : (s : List ℕ) → 0 < feeds s → before_feed s < length s
-unfolding feeds before_feed
-feed_before [] h = absurd (omega arith)
-feed_before (c ∷ s) h =
-    elim (either (eqb c line_feed)) [
-      | inl e ↦ rw e (omega arith)
-      | inr e ↦ rw e (omega (arith, feed_before s (omega (arith, rw e at h))))
+-- what the first line feed's place tells of them, or that there is none
+first_told : (s : List ℕ) (o : Option ℕ) → o ≡ first_feed s → MatchOption o (before_feed s ≡ length s) (λ k. (k ≡ before_feed s) × (k < length s))
+first_told s o e =
+    elim (dec_lt (before_feed s) (length s)) [
+      | yes inside ↦ let some = lt-ltb (before_feed s) (length s) inside in rw (e, some) (refl, inside)
+      | no all ↦ let none = le-ltb (before_feed s) (length s) (omega arith) in rw (e, none) (omega (arith, before_few s))
     ]
 
--- ---- bytes written out
--- the n bytes of s from the place i and k on
-abbrev pub bytes_at : List ℕ → (i k n : ℕ) → List ℕ
-bytes_at s i k zero = []
-bytes_at s i k (suc n) = get_or s (i + k) 0 ∷ bytes_at s i (suc k) n
+-- ---- part by part
+-- the n bytes from j on
+module _ {s : List ℕ} {i j : ℕ} (q : Quiet s i j) (n : ℕ) (fits : j + n ≤ length s) where
+  abbrev part : List ℕ
+  part = take n (drop j s)
 
-pub written_out : (s : List ℕ) (i k n : ℕ) → i + k + n ≤ length s → take n (drop (i + k) s) ≡ bytes_at s i k n
-written_out s i k zero fits = refl
-written_out s i k (suc n) fits =
-    let place : i + k + 1 ≡ i + suc k = omega arith in
-    rw (next s (i + k) (omega arith), place) (ap (λ (t : List ℕ). get_or s (i + k) 0 ∷ t) (written_out s i (suc k) n (omega arith)))
+  part_size : length part ≡ n
+  part_size = length-take-le n (drop j s) (omega (arith, length-drop j s))
+
+  part_none : None ≡ first_feed part → Quiet s i (j + n)
+  part_none e =
+      let all = first_told part None e ∙ part_size in
+      let lacks = rw (all, take-take n n (drop j s) (omega arith)) at (front_lacks part) in
+      quiet_on q n fits lacks
+
+  part_some : {k : ℕ} → Some k ≡ first_feed part → EndsAt s i (j + k) × (j + k < length s)
+  part_some {k} e =
+      let here = first_told part (Some k) e in
+      let inside = lt-ltb (before_feed part) (length part) (omega (arith, here)) in
+      let whole = ap before_feed (sym (take-append-drop n (drop j s))) ∙ rw inside at (before_append part (drop n (drop j s))) in
+      (ends_on q (rw (whole, ← here.0) at (ends_first s j q.inside)), omega (arith, here, part_size))
+
+module _ {s : List ℕ} {i j : ℕ} (q : Quiet s i j) where
+  -- a first chunk of the bytes from j on
+  module _ {n : ℕ} {chunk : List ℕ} (first : IsFirstChunk (take (length s - j) (drop j s)) chunk n) where
+    chunk_fits : j + n ≤ length s
+    chunk_fits = omega (arith, rw (rest j s) at first.enough, length-drop j s, q.inside)
+
+    chunk_is : chunk ≡ take n (drop j s)
+    chunk_is = rw (rest j s) at first.same
+
+    pub chunk_none : None ≡ first_feed chunk → Quiet s i (j + n)
+    chunk_none e = part_none q n chunk_fits (rw chunk_is at e)
+
+    pub chunk_some : {k : ℕ} → Some k ≡ first_feed chunk → EndsAt s i (j + k) × (j + k < length s)
+    chunk_some e = part_some q n chunk_fits (rw chunk_is at e)
+
+  -- and all of them
+  whole_fits : j + (length s - j) ≤ length s
+  whole_fits = omega (arith, q.inside)
+
+  pub rest_none : None ≡ first_feed (take (length s - j) (drop j s)) → EndsAt s i (length s)
+  rest_none e =
+      let whole : j + (length s - j) ≡ length s = omega (arith, q.inside) in
+      record { quiet = rw whole at (part_none q (length s - j) whole_fits e); feed = λ more. absurd (omega arith) }
+
+  pub rest_some : {k : ℕ} → Some k ≡ first_feed (take (length s - j) (drop j s)) → EndsAt s i (j + k) × (j + k < length s)
+  rest_some e = part_some q (length s - j) whole_fits e

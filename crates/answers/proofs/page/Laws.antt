@@ -1,31 +1,33 @@
 -- Lines counted byte by byte, and their places filled one behind the other.
-use mathlib.Core.Bool.{true, false}
+use mathlib.Core.Bool.{Bool, false, not}
 use mathlib.Core.List.{List, [], ◌∷◌, ◌++◌, append-nil}
 use mathlib.Core.Logic.{◌⊎◌, inl, inr}
 use mathlib.Core.Path.{◌≡◌, refl, sym, ◌∙◌, ap}
 use Prim.Native.Nat.{ℕ, ◌+◌, ◌-◌, ◌*◌, ◌/◌, ◌<◌, ◌≤◌}
 use native.Mathlib.Decide.{dec_lt}
 use native.Mathlib.Omega.{arith}
+use lib.Dec.{eqb}
+use mir.Val.{bool_byte}
 use lib.ListN.{length, take, drop, get_or, length-append, length-drop, take-append-drop, drop_of_length-le}
-use lib.Seq.{length-take-le, take_all, take-add, sets, length-sets}
-use borrow.Author.Tests.{eq-eqb, ne_eqb, leb-true, le-leb, lt-leb}
-use Rattle.calendar.proofs.refusal.Laws.{AllPass}
-use Rattle.words.proofs.text.Laws.{rest}
+use lib.Seq.{take_all, sets}
+use borrow.Author.Tests.{eqb-true, eqb-false, le-leb, lt-leb}
+use Rattle.std.proofs.lemmas.Option.{slice_get-get_or}
+use Rattle.std.specs.List.{slice_get}
+use Rattle.std.specs.Option.{MatchOption}
+use Rattle.words.proofs.text.Laws.{either, rest}
 use Rattle.places.proofs.Bytes.{sets_both, sets_start}
 use Rattle.places.proofs.Turn.{turn_append, turn_one, turn_length}
 use Rattle.places.proofs.number.Laws.{number_length, number_first}
 use Rattle.answers.proofs.Lines.{ended_append, last_some}
-use Rattle.answers.proofs.feed.Laws.{feeds_append, feeds_few, ended_feeds, one_feed}
+use Rattle.answers.proofs.feed.Laws.{ended_feeds}
 use Rattle.answers.proofs.Walk.{line_feed_lem, no_line_feed, one_more, Sofar, sofar_length, passed, line_end, all_told, all_left}
-use Rattle.calendar.specs.Refusal.{Test, ◌unless◌, checked}
 use Rattle.dating.specs.Answer.{line_feed}
 use Rattle.dating.specs.Line.{IsNumberOfLine}
 use Rattle.places.specs.Number.{number_bytes, with_number}
 use Rattle.answers.specs.Lines.{ended_lines, open_line, last_line, lines_of}
 use Rattle.answers.specs.Steps.{feeds, between, EndsAt}
-use Rattle.answers.specs.Page.{page_tests, page_answer, IsPlace, Filled, FillsPage}
+use Rattle.answers.specs.Page.{page_answer, IsPlace, Filled}
 use Rattle.calendar.specs.declared.refusal.Refusal.TheVariants.{Length}
-use Rattle.calendar.specs.declared.refusal.Refusal.{Refusal}
 use Rattle.std.specs.Prelude.{Ok, Err}
 
 -- ---- how many lines there are
@@ -33,64 +35,41 @@ use Rattle.std.specs.Prelude.{Ok, Err}
 line_count : (s : List ℕ) → length (lines_of s) ≡ length (ended_lines [] s) + length (last_line (open_line [] s))
 line_count s = length-append (ended_lines [] s) (last_line (open_line [] s))
 
--- the line feeds in the first i bytes are counted
-pub record Counted (s : List ℕ) (count i : ℕ) : Type 0 where
-  pub inside : i ≤ length s
-  pub lines : count ≡ feeds (take i s)
-
-pub count_first : (s : List ℕ) → Counted s 0 0
-unfolding feeds
-count_first s = record { inside = omega arith; lines = refl }
-
-module _ {s : List ℕ} {count i : ℕ} (p : Counted s count i) where
-  pub count_few : count ≤ i
-  count_few = let inside = p.inside in omega (arith, p.lines, feeds_few (take i s), length-take-le i s inside)
-
-  pub count_on : (n : ℕ) → i + n ≤ length s → Counted s (count + feeds (take n (drop i s))) (i + n)
-  count_on n fits = record { inside = fits; lines = rw (take-add i n s, feeds_append (take i s) (take n (drop i s)), p.lines) }
-
-  module _ (more : i < length s) where
-    pub count_end : get_or s i 0 ≡ line_feed → Counted s (count + 1) (i + 1)
-    count_end ends = rw (one_feed s i more, eq-eqb (get_or s i 0) line_feed ends) at (count_on 1 (omega arith))
-
-    pub count_byte : (get_or s i 0 ≡ line_feed → ⊥) → Counted s count (i + 1)
-    count_byte other =
-        let same : count + 0 ≡ count = omega arith in
-        rw (one_feed s i more, ne_eqb (get_or s i 0) line_feed other, same) at (count_on 1 (omega arith))
-
-pub no_lines : (s : List ℕ) → length s ≡ 0 → length (lines_of s) ≡ 0
-unfolding ended_lines open_line
-no_lines [] e = refl
-no_lines (c ∷ s) e = absurd (omega arith)
-
 -- the last byte decides whether a line lacks its line feed
-module _ {s : List ℕ} {count i : ℕ} (p : Counted s count i) (end : length s ≤ i) (some : 1 ≤ length s) where
-  abbrev front : List ℕ
-  front = take (length s - 1) s
+module _ (s : List ℕ) where
+  abbrev last_byte : ℕ
+  last_byte = get_or s (length s - 1) 0
 
-  abbrev last : ℕ
-  last = get_or s (length s - 1) 0
+  module _ (some : 0 < length s) where
+    whole : s ≡ take (length s - 1) s ++ last_byte ∷ []
+    whole =
+        let k : length s - 1 + 1 ≡ length s = omega arith in
+        sym (take_all (length s - 1 + 1) s (omega arith)) ∙ one_more s (length s - 1) (omega arith)
 
-  whole : s ≡ front ++ last ∷ []
-  whole =
-      let k : length s - 1 + 1 ≡ length s = omega arith in
-      sym (take_all (length s - 1 + 1) s (omega arith)) ∙ one_more s (length s - 1) (omega arith)
+    ended_count : last_byte ≡ line_feed → length (lines_of s) ≡ feeds s
+    ended_count ends =
+        let line = ap (open_line []) whole ∙ (line_feed_lem (take (length s - 1) s) last_byte ends).1 in
+        omega (arith, line_count s, ended_feeds [] s, ap length (ap last_line line))
 
-  all_counted : count ≡ length (ended_lines [] s)
-  all_counted = rw (take_all i s end) at p.lines ∙ sym (ended_feeds [] s)
+    open_count : (last_byte ≡ line_feed → ⊥) → length (lines_of s) ≡ feeds s + 1
+    open_count other =
+        let front = open_line [] (take (length s - 1) s) in
+        let line = ap (open_line []) whole ∙ (no_line_feed (take (length s - 1) s) last_byte other).1 in
+        let one = last_some (front ++ last_byte ∷ []) (omega (arith, length-append front (last_byte ∷ []))) in
+        omega (arith, line_count s, ended_feeds [] s, ap length (ap last_line line ∙ one))
 
-  pub ended_count : last ≡ line_feed → count ≡ length (lines_of s)
-  ended_count ends =
-      let line = ap (open_line []) whole ∙ (line_feed_lem front last ends).1 in
-      let none = ap length (ap last_line line) in
-      omega (arith, line_count s, all_counted)
-
-  pub open_count : (last ≡ line_feed → ⊥) → count + 1 ≡ length (lines_of s)
-  open_count other =
-      let line = ap (open_line []) whole ∙ (no_line_feed front last other).1 in
-      let some_bytes = length-append (open_line [] front) (last ∷ []) in
-      let one = ap length (ap last_line line ∙ last_some (open_line [] front ++ last ∷ []) (omega arith)) in
-      omega (arith, line_count s, all_counted)
+pub lines_told : (s : List ℕ) (unended : Bool) → MatchOption (slice_get s (length s - 1)) (unended ≡ false) (λ c. unended ≡ not (eqb c line_feed))
+    → feeds s + bool_byte unended ≡ length (lines_of s)
+unfolding ended_lines open_line feeds
+lines_told [] unended none = rw none
+lines_told (c ∷ t) unended last =
+    let s = c ∷ t in
+    let some : 0 < length s = omega arith in
+    let is = rw (slice_get-get_or s (length s - 1) 0 (omega arith)) at last in
+    elim (either (eqb (last_byte s) line_feed)) [
+      | inl e ↦ let ends = ended_count s some (eqb-true (last_byte s) line_feed e) in rw (is, e) (omega (arith, ends))
+      | inr e ↦ rw (is, e) (sym (open_count s some (eqb-false (last_byte s) line_feed e)))
+    ]
 
 -- ---- places filled line by line
 pub place_length : (l t : List ℕ) → IsPlace l t → length t ≡ 4
@@ -163,17 +142,13 @@ module _ {s before : List ℕ} {place start i : ℕ} {after : List ℕ} (p : Sof
 -- the lines before start are told; or all are, and start lies behind the page, since its last line lacks a line feed
 abbrev pub Filling : (s before : List ℕ) (place start : ℕ) (after : List ℕ) → Type 0
 Filling s before place start after =
-    Sofar IsPlace s before place start start after ⊎ ((length s < start) × Filled s before after × (length after ≡ length before))
+    Sofar IsPlace s before place start start after ⊎ ((length s < start) × Filled s before after)
 
 module _ {s before : List ℕ} {place start : ℕ} {after : List ℕ} where
-  pub filling_length : Filling s before place start after → length after ≡ length before
-  filling_length (inl p) = sofar_length p
-  filling_length (inr (far, done, same)) = same
-
   module _ (room : length (lines_of s) ≤ length before / 4) where
     pub all_filled : Filling s before place start after → length s ≤ start → Filled s before after
     all_filled (inl p) end = filled p room end end
-    all_filled (inr (far, done, same)) end = done
+    all_filled (inr (far, done)) end = done
 
     module _ (f : Filling s before place start after) (some : start < length s) (e : ℕ) (ends : EndsAt s start e) where
       abbrev ToLine : Type 0
@@ -184,7 +159,7 @@ module _ {s before : List ℕ} {place start : ℕ} {after : List ℕ} where
         where
           go : Filling s before place start after → ToLine
           go (inl p) = passed p e ends.quiet
-          go (inr (far, done, same)) = absurd (omega arith)
+          go (inr (far, done)) = absurd (omega arith)
 
       inside : e ≤ length s
       inside = ends.quiet.inside
@@ -205,9 +180,7 @@ module _ {s before : List ℕ} {place start : ℕ} {after : List ℕ} where
             | no last ↦
                 let whole : e ≡ length s = omega (arith, inside) in
                 let line = rw (whole, rest start s) at told in
-                let same = sofar_length to_line in
-                let put = bytes ∙ number_first after place n (omega (arith, line_room)) in
-                inr (omega arith, last_filled to_line room (omega arith) some n now line bytes, ap length put ∙ length-sets after place (number_bytes n) ∙ same)
+                inr (omega arith, last_filled to_line room (omega arith) some n now line bytes)
           ]
 
 -- ---- what the calls answer
@@ -221,35 +194,3 @@ module _ (s : List ℕ) (size : ℕ) where
 
     pub all_fit : length (lines_of s) ≤ size / 4 → Ok (length (lines_of s)) ≡ page_answer s size
     all_fit h = rw (le-leb (length s) 65536 short, le-leb (length (lines_of s)) (size / 4) h)
-
-no_page : {A : Type 0} (n : ℕ) (x : Refusal) → Ok n ≡ Err x → A
-no_page n x e = let z : ◌≡◌ {A = ℕ} 0 1 = cc in absurd (omega arith)
-
--- the lines are answered where all tests are passed
-lines_passed : (ts : List Test) (m n : ℕ) → Ok n ≡ checked Err (Ok m) ts → AllPass ts
-lines_passed [] m n e = tt
-lines_passed (x unless true ∷ ts) m n e = (refl, lines_passed ts m n e)
-lines_passed (x unless false ∷ ts) m n e = no_page n x e
-
--- and refused by the first that is not
-first_refused : (ts : List Test) (m : ℕ) (x : Refusal) (before : List ℕ) (answer : Type 0) → Err x ≡ checked Err (Ok m) ts
-    → checked (λ y. before ≡ before) answer ts
-first_refused [] m x before answer e = no_page m x (sym e)
-first_refused (y unless true ∷ ts) m x before answer e = first_refused ts m x before answer e
-first_refused (y unless false ∷ ts) m x before answer e = refl
-
-module _ (s before : List ℕ) where
-  abbrev size : ℕ
-  size = length before
-
-  fits : (n : ℕ) → Ok n ≡ page_answer s size → AllPass (page_tests s size)
-  fits n e = lines_passed (page_tests s size) (length (lines_of s)) n e
-
-  pub has_places : (n : ℕ) → Ok n ≡ page_answer s size → length (lines_of s) ≤ size / 4
-  has_places n e = leb-true (length (lines_of s)) (size / 4) (fits n e).1.0
-
-  pub page_filled : (n : ℕ) (after : List ℕ) → Ok n ≡ page_answer s size → Filled s before after → FillsPage s before after
-  page_filled n after e done = rw ((fits n e).0, (fits n e).1.0) done
-
-  pub page_unfilled : (x : Refusal) → Err x ≡ page_answer s size → FillsPage s before before
-  page_unfilled x e = first_refused (page_tests s size) (length (lines_of s)) x before (Filled s before before) e
