@@ -1,42 +1,34 @@
 // What is told of the marks of a transcript, in blocks that have room in one buffer.
 ghost use Rattle.std.specs.Prelude.{◌+◌, ◌≤◌, length};
-ghost use Rattle.mark_answers.specs.Steps.{Few, PutsMark, Tellable};
+ghost use Rattle.marks.specs.Steps.{Few};
+ghost use Rattle.mark_answers.specs.Steps.{PutsMark, Tellable};
 ghost use Rattle.mark_answers.specs.Transcript.{TellsFrom, AnswersMarks};
 
 use dating::answer::{put_answer, put_field};
-use marks::transcript::{NextMark, next_mark};
+use marks::transcript::NextMark;
 use marks::utf8::is_utf8;
+use marks::walk::marks_of;
 
 // The bytes of the buffer for output.
 pub const OUTPUT: usize = 65536;
 
 // How many bytes are written, and how many marks they tell.
-#[derive(Clone, Copy)]
+#[derive(Clone, Copy, PartialEq, Eq)]
 pub struct Told {
     pub written: usize,
     pub marks: usize,
 }
 
-// Puts what is told of a mark, whose text is the line, at a place, and answers the place behind it.
-fn put_mark(
-    line: &[u8],
-    start: usize,
-    end: usize,
-    start_character: usize,
-    end_character: usize,
-    output: &mut [u8],
-    at: usize,
-) -> usize
-    requires { Few start end start_character end_character × (at + 49 ≤ length output.old) }
-    ensures { PutsMark line.now start end start_character end_character at output.old output.new result }
+// Puts what is told of a mark, whose text is the line, at a place, and returns the place after it.
+fn put_mark(line: &[u8], mark: NextMark, output: &mut [u8], at: usize) -> usize
+    requires { Few mark × (at + 49 ≤ length output.old) }
+    ensures { PutsMark line.now mark at output.old output.new result }
 {
-    let end_at = at + put_field(output, at, start as u64, b' ');
-    let start_character_at = end_at + put_field(output, end_at, end as u64, b' ');
-    let end_character_at = start_character_at
-        + put_field(output, start_character_at, start_character as u64, b' ');
-    let answer_at = end_character_at
-        + put_field(output, end_character_at, end_character as u64, b' ');
-    answer_at + put_answer(line, output, answer_at)
+    let at = at + put_field(output, at, mark.start as u64, b' ');
+    let at = at + put_field(output, at, mark.end as u64, b' ');
+    let at = at + put_field(output, at, mark.start_character as u64, b' ');
+    let at = at + put_field(output, at, mark.end_character as u64, b' ');
+    at + put_answer(line, output, at)
 }
 
 // Tells the marks behind the first so many of a transcript that is UTF-8, as long as the most that is
@@ -45,53 +37,14 @@ fn tell_marks(text: &[u8], skip: usize, output: &mut [u8]) -> Told
     requires { Tellable text.now }
     ensures { TellsFrom text.now skip output.old output.new result }
 {
-    let mut at = 0;
-    let mut characters = 0;
-    let mut passed = 0;
-    while passed < skip {
-        let NextMark::Next {
-            start: _,
-            end,
-            start_character: _,
-            end_character,
-        } = next_mark(&text[at..])
-        else {
-            return Told {
-                written: 0,
-                marks: 0,
-            };
-        };
-        at += end + 2;
-        characters += end_character + 2;
-        passed += 1;
-    }
     let mut written = 0;
     let mut told = 0;
-    while output.len() - written >= 49 {
-        let NextMark::Next {
-            start,
-            end,
-            start_character,
-            end_character,
-        } = next_mark(&text[at..])
-        else {
-            return Told {
-                written,
-                marks: told,
-            };
-        };
-        written = put_mark(
-            &text[at + start..at + end],
-            at + start,
-            at + end,
-            characters + start_character,
-            characters + end_character,
-            output,
-            written,
-        );
+    for mark in marks_of(text).skip(skip) {
+        if output.len() - written < 49 {
+            break;
+        }
+        written = put_mark(&text[mark.start..mark.end], mark, output, written);
         told += 1;
-        at += end + 2;
-        characters += end_character + 2;
     }
     Told {
         written,

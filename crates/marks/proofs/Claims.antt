@@ -9,24 +9,24 @@ use native.Mathlib.Decide.{dec_lt}
 use native.Mathlib.Omega.{arith}
 use lib.ListN.{length, take, drop, get_or}
 use lib.Seq.{slice, take-append_seam, drop-append_seam}
+use Rattle.std.proofs.Common.{Option, Some, None}
 use Rattle.dating.proofs.Claims.{one_answer}
 use Rattle.places.proofs.Turn.{one_turn, turn_length}
 use Rattle.marks.proofs.mark.Laws.{two_bytes, pair_two}
 use Rattle.marks.proofs.mark.Marks.{has_marks, ends_in, end_inside, behind_other, one_end}
 use Rattle.marks.proofs.mark.Marks as mark_laws
-use Rattle.marks.proofs.transcript.Laws.{start_splits, end_splits, place_length}
+use Rattle.marks.proofs.walk.Laws.{start_splits, end_splits}
+use Rattle.marks.proofs.transcript.Laws.{place_length}
 use Rattle.marks.proofs.utf8.Laws.{Split, characters_at, between_splits}
 pub use Rattle.marks.proofs.utf8.Laws.{one_list, Ascii, ascii_counts, longer_differs}
-use Rattle.calendar.specs.Refusal.{refusal_number}
+use Rattle.calendar.specs.Refusal.{refusal_number, refusal_or_zero}
 use Rattle.marks.specs.Mark.{opening, closing, IsMark, AreMarks, IsFirstMark}
-use Rattle.marks.specs.Transcript.{IsNextMark, IsPlace, Found, Condition, ◌unless◌, Checked, conditions}
-use Rattle.marks.specs.Transcript.{FindsMarks, TellsRefusal, marks_refusal}
+use Rattle.marks.specs.Transcript.{mark_of, Counted, IsNextMark, IsPlace, Found, Condition, ◌unless◌, Checked, conditions}
+use Rattle.marks.specs.Transcript.{FindsMarks, TellsRefusal}
 use Rattle.marks.specs.Utf8.{Spells, TellsUtf8, characters_before, starts}
+use Rattle.marks.specs.Walk.{Walks}
 use Rattle.calendar.specs.declared.refusal.Refusal.{Refusal}
-use Rattle.marks.specs.declared.mark.FirstMark.TheVariants.{At, NoMark}
-use Rattle.marks.specs.declared.mark.FirstMark.{FirstMark}
 use Rattle.marks.specs.declared.mark.Mark.{Mark}
-use Rattle.marks.specs.declared.transcript.NextMark.TheVariants.{Next, NoMore}
 use Rattle.marks.specs.declared.transcript.NextMark.{NextMark}
 use Rattle.std.specs.Prelude.{Result, Ok, Err}
 
@@ -83,26 +83,39 @@ one_start {s} {m} {o} h k e =
           ]
     ]
 
-pub one_first : (s : List ℕ) (r q : FirstMark) → IsFirstMark s r → IsFirstMark s q → r ≡ q
-one_first s (At m) (At o) h k = ap At (one_start h.0 k.0 (omega (arith, h.1 o k.0, k.1 m h.0)))
-one_first s (At m) NoMark h k = absurd (k m h.0)
-one_first s NoMark (At o) h k = absurd (h o k.0)
-one_first s NoMark NoMark h k = refl
+pub one_first : (s : List ℕ) (r q : Option Mark) → IsFirstMark s r → IsFirstMark s q → r ≡ q
+one_first s (Some m) (Some o) h k = ap Some (one_start h.0 k.0 (omega (arith, h.1 o k.0, k.1 m h.0)))
+one_first s (Some m) None h k = absurd (k m h.0)
+one_first s None (Some o) h k = absurd (h o k.0)
+one_first s None None h k = refl
 
 -- And so in bytes and in characters.
-pub one_next : (s : List ℕ) (r q : NextMark) → IsNextMark s r → IsNextMark s q → r ≡ q
-one_next s (Next a e f p) (Next b i g q) h k =
-    let not_later = h.0.1 (record { start = b; end = i }) k.0.0 in
-    let not_Earlier = k.0.1 (record { start = a; end = e }) h.0.0 in
-    let same = one_start h.0.0 k.0.0 (omega arith) in
-    let first = ap (λ (m : Mark). m.start) same in
-    let last = ap (λ (m : Mark). m.end) same in
-    let before_start = h.1.0 ∙ ap (λ (n : ℕ). starts (take n s)) first ∙ sym k.1.0 in
-    let before_end = h.1.1 ∙ ap (λ (n : ℕ). starts (take n s)) last ∙ sym k.1.1 in
-    λ j. Next (first j) (last j) (before_start j) (before_end j)
-one_next s (Next a e f p) NoMore h k = absurd (k (record { start = a; end = e }) h.0.0)
-one_next s NoMore (Next b i g q) h k = absurd (h (record { start = b; end = i }) k.0.0)
-one_next s NoMore NoMore h k = refl
+same_counted : (s : List ℕ) {m o : NextMark} → mark_of m ≡ mark_of o → Counted s m → Counted s o → m ≡ o
+same_counted s e h k =
+    let first = ap (λ (m : Mark). m.start) e in
+    let last = ap (λ (m : Mark). m.end) e in
+    let before_start = h.0 ∙ ap (λ (n : ℕ). starts (take n s)) first ∙ sym k.0 in
+    let before_end = h.1 ∙ ap (λ (n : ℕ). starts (take n s)) last ∙ sym k.1 in
+    λ j. record { start = first j; end = last j; start_character = before_start j; end_character = before_end j }
+
+pub one_next : (s : List ℕ) (r q : Option NextMark) → IsNextMark s r → IsNextMark s q → r ≡ q
+one_next s (Some m) (Some o) h k =
+    let same = one_start h.0.0 k.0.0 (omega (arith, h.0.1 (mark_of o) k.0.0, k.0.1 (mark_of m) h.0.0)) in
+    ap Some (same_counted s same h.1 k.1)
+one_next s (Some m) None h k = absurd (k (mark_of m) h.0.0)
+one_next s None (Some o) h k = absurd (h (mark_of o) k.0.0)
+one_next s None None h k = refl
+
+-- A step from mark to mark has one result, and leads to one place.
+pub one_step : (p : List ℕ × ℕ) (r q : Option NextMark) (after other : List ℕ × ℕ) → Walks p r after → Walks p q other → (r ≡ q) × (after ≡ other)
+one_step p (Some m) (Some o) after other h k =
+    let low = h.0.first (mark_of o) k.0.is_mark k.0.from in
+    let high = k.0.first (mark_of m) h.0.is_mark h.0.from in
+    let same = same_counted p.0 (one_start h.0.is_mark k.0.is_mark (omega arith)) h.1 k.1 in
+    (ap Some same, h.2 ∙ ap (λ (n : NextMark). (p.0, n.end + 2)) same ∙ sym k.2)
+one_step p (Some m) None after other h k = absurd (k.0 (mark_of m) h.0.is_mark h.0.from)
+one_step p None (Some o) after other h k = absurd (h.0 (mark_of o) k.0.is_mark k.0.from)
+one_step p None None after other h k = (refl, h.1 ∙ sym k.1)
 
 -- The bytes of the places are one.
 one_place : (s cs : List ℕ) (m : Mark) (t u : List ℕ) → IsPlace s cs m t → IsPlace s cs m u → t ≡ u
@@ -173,9 +186,9 @@ one_refusal s size r q h k =
     (both_checked (λ x. r ≡ refusal_number x) (λ x. q ≡ refusal_number x) (conditions s size) h k)
 
 -- The refusal that is told is the call's own, and 0 where it answers.
-pub refusal_told : (s b a : List ℕ) (r : Result ℕ Refusal) (q : ℕ) → FindsMarks Ok Err s b a r → TellsRefusal s (length b) q → q ≡ marks_refusal r
+pub refusal_told : (s b a : List ℕ) (r : Result ℕ Refusal) (q : ℕ) → FindsMarks Ok Err s b a r → TellsRefusal s (length b) q → q ≡ refusal_or_zero r
 refusal_told s b a r q h k =
-    ⊎_elim (λ x. x.1.1 ∙ sym (ap marks_refusal x.1.0.0)) (λ both. both.1 ∙ sym (ap marks_refusal both.0.1.1))
+    ⊎_elim (λ x. x.1.1 ∙ sym (ap refusal_or_zero x.1.0.0)) (λ both. both.1 ∙ sym (ap refusal_or_zero both.0.1.1))
     (both_checked (λ x. (r ≡ Err x) × (a ≡ b)) (λ x. q ≡ refusal_number x) (conditions s (length b)) h k)
 
 -- A transcript of no bytes has no marks.
@@ -184,7 +197,7 @@ no_bytes [] are = refl
 no_bytes (m ∷ ms) are = absurd (omega (arith, end_inside ((are.each m).0 (inl refl))))
 
 -- In UTF-8 the characters that the first mark is told with are those before its start and before its end.
-pub next_characters : (cs s : List ℕ) (a e f p : ℕ) → Spells cs s → IsNextMark s (Next a e f p)
-    → (f ≡ characters_before a cs) × (p ≡ characters_before e cs)
-next_characters cs s a e f p spells (h, (first, last)) =
-    (first ∙ sym (characters_at spells (start_splits spells h.0)), last ∙ sym (characters_at spells (end_splits spells h.0)))
+pub next_characters : (cs s : List ℕ) (m : NextMark) → Spells cs s → IsNextMark s (Some m)
+    → (m.start_character ≡ characters_before m.start cs) × (m.end_character ≡ characters_before m.end cs)
+next_characters cs s m spells h =
+    (h.1.0 ∙ sym (characters_at spells (start_splits spells h.0.0)), h.1.1 ∙ sym (characters_at spells (end_splits spells h.0.0)))

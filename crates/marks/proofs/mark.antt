@@ -1,3 +1,2 @@
-use Rattle.std.specs.Prelude.{Ok}
 pub mod Laws
-pub mod Ok
+pub mod Marks

@@ -1,2 +1,3 @@
 pub mod Character
 pub mod Laws
+pub mod Library

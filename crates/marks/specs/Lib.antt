@@ -3,4 +3,5 @@
 pub mod Utf8
 pub mod Mark
 pub mod Transcript
+pub mod Walk
 pub mod Steps

@@ -1,8 +1,6 @@
 -- Pairs of brackets, and the marks between them.
-use Rattle.std.specs.Prelude.{Bool, true, false, ◌&&◌, not, List, [], ◌∷◌, ◌↔◌, ◌⊎◌, ◌≡◌, ℕ, zero, suc, ◌+◌, ◌-◌, ◌≤◌, eqb, get_or}
+use Rattle.std.specs.Prelude.{Bool, true, false, ◌&&◌, not, List, [], ◌∷◌, ◌↔◌, ◌⊎◌, ◌≡◌, ℕ, zero, suc, ◌+◌, ◌-◌, ◌≤◌, eqb, get_or, Option, Some, None}
 use Prim.Native.Char.{code}
-use Rattle.marks.specs.declared.mark.FirstMark.TheVariants.{At, NoMark}
-use Rattle.marks.specs.declared.mark.FirstMark.{FirstMark}
 use Rattle.marks.specs.declared.mark.Mark.{Mark}
 
 -- two bytes b stand at the place i
@@ -45,6 +43,6 @@ pub record AreMarks (s : List ℕ) (ms : List Mark) : Type 0 where
   pub rise : RiseFrom 0 ms
 
 -- r is the first mark of s by its place, or there is none
-abbrev pub IsFirstMark : List ℕ → FirstMark → Type 0
-IsFirstMark s (At m) = IsMark s m × ((o : Mark) → IsMark s o → m.start ≤ o.start)
-IsFirstMark s NoMark = (o : Mark) → IsMark s o → ⊥
+abbrev pub IsFirstMark : List ℕ → Option Mark → Type 0
+IsFirstMark s (Some m) = IsMark s m × ((o : Mark) → IsMark s o → m.start ≤ o.start)
+IsFirstMark s None = (o : Mark) → IsMark s o → ⊥

@@ -1,34 +1,26 @@
 -- What the private functions answer. No public promise is stated by these.
-use Rattle.std.specs.Prelude.{cond, List, ◌++◌, ◌≡◌, ℕ, ◌*◌, ◌≤◌, eqb, ltb, length}
+use Rattle.std.specs.Prelude.{List, ◌≡◌, ℕ, ◌+◌, ◌*◌, ◌≤◌, length}
 use Prim.Native.Char.{code}
 use Rattle.std.proofs.lemmas.List.Edits.{sets}
-use Rattle.marks.specs.Mark.{two, AreMarks}
+use Rattle.marks.specs.Mark.{two, opening, closing, IsMark, AreMarks}
 use Rattle.marks.specs.Transcript.{place_bytes, Found, Checked, conditions}
-use Rattle.marks.specs.Utf8.{CodePoint, encoded, IsUtf8}
+use Rattle.marks.specs.Utf8.{IsUtf8}
 use Rattle.marks.specs.declared.mark.Mark.{Mark}
+use Rattle.marks.specs.declared.transcript.NextMark.{NextMark}
 use Rattle.std.specs.Prelude.{Result, Ok, Err}
 use Rattle.calendar.specs.declared.refusal.Refusal.{Refusal}
 
--- ---- UTF-8
--- the number of bytes by the first, and the bounds of the second, by the syntax in section 4 of RFC 3629
-abbrev pub size_by_first : ℕ → ℕ
-size_by_first b = cond (ltb b 0x80) 1 (cond (ltb b 0xC2) 0 (cond (ltb b 0xE0) 2 (cond (ltb b 0xF0) 3 (cond (ltb b 0xF5) 4 0))))
-
-abbrev pub least_second : ℕ → ℕ
-least_second b = cond (eqb b 0xE0) 0xA0 (cond (eqb b 0xF0) 0x90 0x80)
-
-abbrev pub most_second : ℕ → ℕ
-most_second b = cond (eqb b 0xED) 0x9F (cond (eqb b 0xF4) 0x8F 0xBF)
-
--- r is how many bytes the character has that s begins with, or 0 where it begins with none
-pub data LeadSize (s : List ℕ) (r : ℕ) : Type 0 where
-  leads : (c : ℕ) (t : List ℕ) → CodePoint c → encoded c ++ t ≡ s → r ≡ length (encoded c) → LeadSize s r
-  leadless : ((c : ℕ) (t : List ℕ) → CodePoint c → encoded c ++ t ≡ s → ⊥) → r ≡ 0 → LeadSize s r
-
 -- ---- marks
--- the bracket of which two stand at the place i, or 0
-unfoldable pub two_at : List ℕ → ℕ → ℕ
-two_at s i = cond (two (code "[") s i) (code "[") (cond (two (code "]") s i) (code "]") 0)
+-- no pair just before has taken the byte at the place i
+pub record Clear (s : List ℕ) (i : ℕ) : Type 0 where
+  pub opens : opening s i ≡ two (code "[") s i
+  pub closes : closing s i ≡ two (code "]") s i
+
+-- no pair and no mark of s reaches over the place i
+pub record Between (s : List ℕ) (i : ℕ) : Type 0 where
+  pub inside : i ≤ length s
+  pub clear : Clear s i
+  pub beyond : (m : Mark) → IsMark s m → i ≤ m.end → i + 2 ≤ m.start
 
 abbrev pub CountsMarks : List ℕ → ℕ → Type 0
 CountsMarks s n = (ms : List Mark) × (AreMarks s ms × (n ≡ length ms))
@@ -37,6 +29,13 @@ CountsMarks s n = (ms : List Mark) × (AreMarks s ms × (n ≡ length ms))
 -- the five numbers of a mark are put from the byte i on
 abbrev pub with_place : List ℕ → ℕ → (start end start_character end_character number : ℕ) → List ℕ
 with_place s i a e f p n = sets s i (place_bytes a e f p n)
+
+-- no number of the mark m is above the length of the longest transcript
+pub record Few (m : NextMark) : Type 0 where
+  pub start_few : m.start ≤ 65536
+  pub end_few : m.end ≤ 65536
+  pub start_character_few : m.start_character ≤ 65536
+  pub end_character_few : m.end_character ≤ 65536
 
 -- the transcript s is UTF-8, and its marks have their places
 pub record Fillable (s : List ℕ) (size : ℕ) : Type 0 where

@@ -1,5 +1,5 @@
 -- The places of a transcript's marks, and the refusals.
-use Rattle.std.specs.Prelude.{List, [], ◌∷◌, ◌++◌, ◌⊎◌, ◌≡◌, ℕ, ◌/◌, ◌≤◌, length, take, drop}
+use Rattle.std.specs.Prelude.{List, [], ◌∷◌, ◌++◌, ◌⊎◌, ◌≡◌, ℕ, ◌/◌, ◌≤◌, length, take, drop, Option, Some, None}
 use Rattle.std.proofs.Math.Seq.{slice}
 use Rattle.calendar.specs.Refusal.{refusal_number}
 use Rattle.dating.specs.Line.{IsNumberOfLine}
@@ -9,16 +9,21 @@ use Rattle.marks.specs.Mark.{AreMarks, IsFirstMark}
 use Rattle.marks.specs.Utf8.{Spells, IsUtf8, characters_before, starts}
 use Rattle.calendar.specs.declared.refusal.Refusal.TheVariants.{Length, Encoding}
 use Rattle.calendar.specs.declared.refusal.Refusal.{Refusal}
-use Rattle.marks.specs.declared.mark.FirstMark.TheVariants.{At, NoMark}
 use Rattle.marks.specs.declared.mark.Mark.{Mark}
-use Rattle.marks.specs.declared.transcript.NextMark.TheVariants.{Next, NoMore}
 use Rattle.marks.specs.declared.transcript.NextMark.{NextMark}
-use Rattle.std.specs.Prelude.{Result, Ok, Err}
 
--- r is the first mark of s by its place, with the characters that begin before its start and before its end; or there is none
-abbrev pub IsNextMark : List ℕ → NextMark → Type 0
-IsNextMark s (Next a e f p) = IsFirstMark s (At (record { start = a; end = e })) × ((f ≡ starts (take a s)) × (p ≡ starts (take e s)))
-IsNextMark s NoMore = IsFirstMark s NoMark
+-- where a mark begins and ends
+abbrev pub mark_of : NextMark → Mark
+mark_of m = record { start = m.start; end = m.end }
+
+-- the mark m of s has the characters that begin before its start and before its end
+abbrev pub Counted : List ℕ → NextMark → Type 0
+Counted s m = (m.start_character ≡ starts (take m.start s)) × (m.end_character ≡ starts (take m.end s))
+
+-- r is the first mark of s by its place, with its characters; or there is none
+abbrev pub IsNextMark : List ℕ → Option NextMark → Type 0
+IsNextMark s (Some m) = IsFirstMark s (Some (mark_of m)) × Counted s m
+IsNextMark s None = IsFirstMark s None
 
 -- the bytes of five numbers
 abbrev pub place_bytes : (start end start_character end_character number : ℕ) → List ℕ
@@ -76,13 +81,3 @@ FindsMarks told refused s before after r =
 -- r is the number of the refusal where places of so many bytes are lent, or 0 where the marks are not refused
 abbrev pub TellsRefusal : List ℕ → ℕ → ℕ → Type 0
 TellsRefusal s size r = Checked (λ x. r ≡ refusal_number x) (r ≡ 0) (conditions s size)
-
--- the number of marks, or 0 where they are refused
-abbrev pub marks_or_zero : Result ℕ Refusal → ℕ
-marks_or_zero (Ok n) = n
-marks_or_zero (Err x) = 0
-
--- the refusal's number, or 0 where there is none
-abbrev pub marks_refusal : Result ℕ Refusal → ℕ
-marks_refusal (Ok n) = 0
-marks_refusal (Err x) = refusal_number x

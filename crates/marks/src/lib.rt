@@ -5,3 +5,4 @@
 pub mod mark;
 pub mod transcript;
 pub mod utf8;
+pub mod walk;

@@ -3,17 +3,11 @@ ghost use Rattle.std.specs.Prelude.{◌≡◌};
 ghost use Rattle.places.specs.Number.{with_number};
 
 // Puts a number into a buffer, from the byte at on; where fewer than four bytes stand there, nothing is put.
+#[tactic(auto, unfolding(crate::specs::Number::with_number))]
 pub fn put_number(buffer: &mut [u8], at: usize, number: u32)
     ensures { buffer.new ≡ with_number buffer.old at number }
 {
-    if buffer.len() < 4 {
-        return;
+    if buffer.len().saturating_sub(at) >= 4 {
+        buffer[at..at + 4].copy_from_slice(&number.to_le_bytes());
     }
-    if at > buffer.len() - 4 {
-        return;
-    }
-    buffer[at] = (number % 256) as u8;
-    buffer[at + 1] = (number / 256 % 256) as u8;
-    buffer[at + 2] = (number / 256 / 256 % 256) as u8;
-    buffer[at + 3] = (number / 256 / 256 / 256 % 256) as u8;
 }

@@ -1,32 +1,35 @@
 -- What is told of marks, put one behind the other.
-use mathlib.Core.List.{List, [], ◌∷◌, ◌++◌, append-nil, append_assoc}
+use mathlib.Core.List.{List, [], ◌∷◌, ◌++◌, map, append-nil, append_assoc}
 use mathlib.Core.Logic.{inl, inr}
-use mathlib.Core.Path.{◌≡◌, refl, ◌∙◌, ap}
-use Prim.Native.Nat.{ℕ, zero, suc, ◌+◌, ◌-◌, ◌*◌, ◌<◌, ◌≤◌}
+use mathlib.Core.Path.{◌≡◌, refl, sym, ◌∙◌, ap}
+use Prim.Native.Nat.{ℕ, suc, ◌+◌, ◌-◌, ◌*◌, ◌<◌, ◌≤◌}
 use native.Mathlib.Omega.{arith}
-use lib.ListN.{length, take, drop, length-append}
-use lib.Seq.{drop-nil, append_snoc, drop_at, sets, length-sets}
+use lib.ListN.{length, take, drop, length-append, length-drop, length-map, drop_of_length-le}
+use lib.Seq.{append_snoc, drop_at, sets, length-sets}
 use borrow.Author.Tests.{le-leb}
+use Rattle.std.proofs.Common.{Some, None}
+use Rattle.std.specs.Iterator.{SkipsThenYields}
 use Rattle.places.proofs.Bytes.{sets_both, sets_start}
 use Rattle.words.proofs.numeral.Laws.{five_digits}
 use Rattle.dating.proofs.answer.Laws.{answer_length, refused_length}
 use Rattle.dating.proofs.writer.Laws.{field_length}
-use Rattle.marks.proofs.mark.Marks.{shifted, upto_last, upto_all}
-use Rattle.marks.proofs.transcript.Laws.{part, Reached, reach_first, reach_next, first_before, past_before, Small, next_small}
+use Rattle.marks.proofs.mark.Marks.{has_marks}
+use Rattle.marks.proofs.walk.Laws.{Found, found_characters, Ahead, ahead_first, walk_mark, walk_next, walk_last, walk_on}
+use Rattle.marks.proofs.transcript.Laws.{part}
 use Rattle.calendar.specs.Refusal.{refusal_number}
 use Rattle.words.specs.Numeral.{field}
 use Rattle.words.specs.Text.{space}
 use Rattle.dating.specs.Answer.{line_feed, refused_text, IsAnswer, PutsText, PutsField, PutsAnswer}
-use Rattle.marks.specs.Mark.{AreMarks, IsFirstMark}
-use Rattle.marks.specs.Transcript.{IsNextMark}
+use Rattle.marks.specs.Mark.{AreMarks}
+use Rattle.marks.specs.Transcript.{mark_of}
 use Rattle.marks.specs.Utf8.{Spells, IsUtf8}
+use Rattle.marks.specs.Walk.{Walks}
 use Rattle.mark_answers.specs.Steps.{PutsMark}
 use Rattle.mark_answers.specs.Transcript.{mark_fields, TellsFitting, all_told, full, next, TellsFrom, TellsNone, AnswersMarks}
 use Rattle.calendar.specs.declared.refusal.Refusal.TheVariants.{Length, Encoding}
 use Rattle.calendar.specs.declared.refusal.Refusal.{Refusal}
-use Rattle.marks.specs.declared.mark.FirstMark.TheVariants.{NoMark}
 use Rattle.marks.specs.declared.mark.Mark.{Mark}
-use Rattle.marks.specs.declared.transcript.NextMark.TheVariants.{Next}
+use Rattle.marks.specs.declared.transcript.NextMark.{NextMark}
 use Rattle.mark_answers.specs.declared.transcript.Told.{Told}
 
 -- ---- a mark
@@ -59,16 +62,15 @@ module _ {before : List ℕ} {i k : ℕ} {w mid : List ℕ} {place : ℕ} (p : F
           }
 
 -- the answer is put behind the four fields
-pub answer_put : {before : List ℕ} {i : ℕ} {mid : List ℕ} {place : ℕ} (s : List ℕ)
-    (start end start_character end_character : ℕ) (after : List ℕ) (r : ℕ)
-    → Fields before i 4 (mark_fields start end start_character end_character) mid place → i + 49 ≤ length before → PutsAnswer s place mid after r
-    → PutsMark s start end start_character end_character i before after (place + r)
-answer_put {before} {i} {mid} {place} s start end start_character end_character after r p room h =
+pub answer_put : {before : List ℕ} {i : ℕ} {mid : List ℕ} {place : ℕ} (s : List ℕ) (m : NextMark) (after : List ℕ) (r : ℕ)
+    → Fields before i 4 (mark_fields m.start m.end m.start_character m.end_character) mid place → i + 49 ≤ length before
+    → PutsAnswer s place mid after r → PutsMark s m i before after (place + r)
+answer_put {before} {i} {mid} {place} s m after r p room h =
     go (rw (le-leb (place + 25) (length mid) (omega (arith, same_room p room, p.behind, p.few))) at h)
   where
-    go : (a : List ℕ) × (IsAnswer s a × PutsText place mid after r a) → PutsMark s start end start_character end_character i before after (place + r)
+    go : (a : List ℕ) × (IsAnswer s a × PutsText place mid after r a) → PutsMark s m i before after (place + r)
     go (a, (is_answer, (count, bytes))) =
-        let w = mark_fields start end start_character end_character in
+        let w = mark_fields m.start m.end m.start_character m.end_character in
         let all = length-append w a in
         let few = (answer_length s a is_answer).0 in
         record {
@@ -80,48 +82,30 @@ answer_put {before} {i} {mid} {place} s start end start_character end_character 
         }
 
 -- ---- the marks that are passed over
--- so many marks end before the place i of the transcript s, which so many characters begin before
-pub record Passing (s : List ℕ) (passed i characters : ℕ) : Type 0 where
-  pub marks : List Mark
-  pub reached : Reached s i characters marks
-  pub count : passed ≡ length marks
+-- behind n marks of those ahead comes the mark m, and then the others
+record Passed (s : List ℕ) (n : ℕ) (ms : List Mark) (m : NextMark) (q : List ℕ × ℕ) : Type 0 where
+  found : Found s m
+  rest : List Mark
+  whole : drop n ms ≡ mark_of m ∷ rest
+  ahead : Ahead s q rest
 
-pub pass_first : (s : List ℕ) → Passing s 0 0 0
-pass_first s = record { marks = []; reached = reach_first s; count = refl }
+module _ {s : List ℕ} {p q : List ℕ × ℕ} {n : ℕ} {ms : List Mark} (w : Ahead s p ms) where
+  pass_next : {m : NextMark} → SkipsThenYields Walks p n (Some m) q → Passed s n ms m q
+  pass_next (steps, (t, led, step), count) =
+      let past = walk_on steps w led in
+      let one = walk_next past.ahead step in
+      record {
+        found = walk_mark past.ahead step;
+        rest = one.rest;
+        whole = ap (drop n) past.whole ∙ drop_at (map mark_of steps) past.rest n (length-map steps mark_of ∙ count) ∙ one.whole;
+        ahead = one.ahead;
+      }
 
-drop_over : (n : ℕ) (ms : List Mark) → length ms ≤ n → drop n ms ≡ []
-drop_over n [] h = drop-nil n
-drop_over zero (m ∷ ms) h = absurd (omega arith)
-drop_over (suc n) (m ∷ ms) h = drop_over n ms (omega arith)
-
-module _ {s : List ℕ} {passed i characters : ℕ} (p : Passing s passed i characters) where
-  -- where no mark is left to pass over, none is told
-  pub pass_last : (skip : ℕ) (before : List ℕ) → passed ≤ skip → IsUtf8 s → IsFirstMark (drop i s) NoMark
-      → TellsFrom s skip before before (record { written = 0; marks = 0 })
-  pass_last skip before few u none = record {
-    characters = u.0;
-    spells = u.1;
-    marks = p.marks;
-    are_marks = upto_last p.reached.upto none;
-    text = [];
-    fits = rw (drop_over skip p.marks (omega (arith, p.count))) all_told;
-    room = omega arith;
-    count = refl;
-    bytes = refl;
-  }
-
-  module _ (a e f q : ℕ) (h : IsNextMark (drop i s) (Next a e f q)) where
-    pub pass_next : Passing s (passed + 1) (i + (e + 2)) (characters + (q + 2))
-    pass_next =
-        let mark : Mark = record { start = a; end = e } in
-        let at : i + e + 2 ≡ i + (e + 2) = omega arith in
-        let count : characters + q + 2 ≡ characters + (q + 2) = omega arith in
-        let more = length-append p.marks (shifted i mark ∷ []) in
-        record {
-          marks = p.marks ++ shifted i mark ∷ [];
-          reached = rw (at, count) at (reach_next p.reached mark h.0 f q h.1.0 h.1.1);
-          count = omega (arith, p.count);
-        }
+  pass_last : SkipsThenYields Walks p n None q → drop n ms ≡ []
+  pass_last (steps, (t, led, none), few) =
+      let past = walk_on steps w led in
+      let whole : ms ≡ map mark_of steps = past.whole ∙ rw (walk_last past.ahead none, append-nil (map mark_of steps)) in
+      drop_of_length-le ms (omega (arith, ap length whole ∙ length-map steps mark_of))
 
 -- ---- the marks that are told
 -- what has no room is not told
@@ -129,126 +113,125 @@ nothing_fits : (s cs : List ℕ) (room : ℕ) (ms : List Mark) → room < 49 →
 nothing_fits s cs room [] h = all_told
 nothing_fits s cs room (m ∷ ms) h = full h
 
--- the marks behind the first so many and before the place i are told
-pub record Telling (s : List ℕ) (skip : ℕ) (before : List ℕ) (written told i characters : ℕ) (after : List ℕ) : Type 0 where
+-- the marks behind the first so many and before the place p are told, where n are still to be passed over
+pub record Telling (s : List ℕ) (skip : ℕ) (before : List ℕ) (written told : ℕ) (p : List ℕ × ℕ) (n : ℕ) (after : List ℕ) : Type 0 where
   pub points : List ℕ
   pub spells : Spells points s
-  pub passed : List Mark
-  pub skipped : length passed ≡ skip
   pub marks : List Mark
-  pub reached : Reached s i characters (passed ++ marks)
+  pub are_marks : AreMarks s marks
+  pub few : length marks * 4 ≤ length s
+  pub done : List Mark
+  pub left : List Mark
+  pub ahead : Ahead s p left
+  pub all : drop skip marks ≡ done ++ drop n left
   pub text : List ℕ
   -- what fits behind them is told with them
   pub fits : (more : List Mark) (u : List ℕ) (k : ℕ) → TellsFitting s points (length before - written) more u k
-      → TellsFitting s points (length before) (marks ++ more) (text ++ u) (told + k)
-  pub count : told ≡ length marks
+      → TellsFitting s points (length before) (done ++ more) (text ++ u) (told + k)
+  pub count : told ≡ length done
   pub size : written ≡ length text
   pub inside : written ≤ length before
   pub bytes : after ≡ sets before 0 text
 
-pub tell_first : {s : List ℕ} {skip i characters : ℕ} (before : List ℕ) → Passing s skip i characters → IsUtf8 s
-    → Telling s skip before 0 0 i characters before
-tell_first {s} {skip} before p u = record {
-  points = u.0;
-  spells = u.1;
-  passed = p.marks;
-  skipped = omega (arith, p.count);
-  marks = [];
-  reached = rw (append-nil p.marks) p.reached;
-  text = [];
-  fits = λ more v k h.
-      let e : length before - 0 ≡ length before = omega arith in
-      let f : 0 + k ≡ k = omega arith in
-      rw f (rw e at h);
-  count = refl;
-  size = refl;
-  inside = omega arith;
-  bytes = refl;
-}
+pub tell_first : {s : List ℕ} (skip : ℕ) (before : List ℕ) → IsUtf8 s → Telling s skip before 0 0 (s, 0) skip before
+tell_first {s} skip before u =
+    let all = has_marks s in
+    record {
+      points = u.0;
+      spells = u.1;
+      marks = all.0;
+      are_marks = all.1.0;
+      few = all.1.1;
+      done = [];
+      left = all.0;
+      ahead = ahead_first all.1.0;
+      all = refl;
+      text = [];
+      fits = λ more v k h.
+          let e : length before - 0 ≡ length before = omega arith in
+          let f : 0 + k ≡ k = omega arith in
+          rw f (rw e at h);
+      count = refl;
+      size = refl;
+      inside = omega arith;
+      bytes = refl;
+    }
 
-module _ {s : List ℕ} {skip : ℕ} {before : List ℕ} {written told i characters : ℕ} {after : List ℕ}
-    (p : Telling s skip before written told i characters after) where
+module _ {s : List ℕ} {skip : ℕ} {before : List ℕ} {written told : ℕ} {p : List ℕ × ℕ} {n : ℕ} {after : List ℕ}
+    (t : Telling s skip before written told p n after) where
   pub tell_length : length after ≡ length before
-  tell_length = ap length p.bytes ∙ length-sets before 0 p.text
+  tell_length = ap length t.bytes ∙ length-sets before 0 t.text
 
   pub tell_few : told * 4 ≤ length s
   tell_few =
-      let upto = p.reached.upto in
-      let all = length-append p.passed p.marks in
-      omega (arith, p.count, upto.few, upto.inside)
+      let all = ap length t.all ∙ length-append t.done (drop n t.left) in
+      omega (arith, t.count, t.few, length-drop skip t.marks)
 
   abbrev result : Told
   result = record { written = written; marks = told }
 
   -- no more is told of the marks behind
-  tell_stop : (more : List Mark) → AreMarks s (p.passed ++ p.marks ++ more) → TellsFitting s p.points (length before - written) more [] 0
+  tell_stop : (more : List Mark) → drop skip t.marks ≡ t.done ++ more → TellsFitting s t.points (length before - written) more [] 0
       → TellsFrom s skip before after result
-  tell_stop more are stop =
-      let behind = ap (drop skip) (append_assoc p.passed p.marks more) ∙ drop_at p.passed (p.marks ++ more) skip p.skipped in
+  tell_stop more whole stop =
       let e : told + 0 ≡ told = omega arith in
-      let room : length p.text ≤ length before = omega (arith, p.size, p.inside) in
+      let room : length t.text ≤ length before = omega (arith, t.size, t.inside) in
       record {
-        characters = p.points;
-        spells = p.spells;
-        marks = p.passed ++ p.marks ++ more;
-        are_marks = are;
-        text = p.text;
-        fits = rw behind (rw (append-nil p.text, e) at (p.fits more [] 0 stop));
+        characters = t.points;
+        spells = t.spells;
+        marks = t.marks;
+        are_marks = t.are_marks;
+        text = t.text;
+        fits = rw whole (rw (append-nil t.text, e) at (t.fits more [] 0 stop));
         room = room;
-        count = p.size;
-        bytes = p.bytes ∙ sets_start p.text before room;
+        count = t.size;
+        bytes = t.bytes ∙ sets_start t.text before room;
       }
 
-  pub tell_last : IsFirstMark (drop i s) NoMark → TellsFrom s skip before after result
-  tell_last none = tell_stop [] (rw (append-nil (p.passed ++ p.marks)) (upto_last p.reached.upto none)) all_told
-
   pub tell_full : length before - written < 49 → TellsFrom s skip before after result
-  tell_full room =
-      let all = upto_all p.reached.upto in
-      tell_stop all.0 all.1 (nothing_fits s p.points (length before - written) all.0 room)
+  tell_full room = tell_stop (drop n t.left) t.all (nothing_fits s t.points (length before - written) (drop n t.left) room)
 
-  module _ (a e f q : ℕ) (h : IsNextMark (drop i s) (Next a e f q)) where
-    abbrev mark : Mark
-    mark = record { start = a; end = e }
+  module _ {q : List ℕ × ℕ} where
+    pub tell_last : SkipsThenYields Walks p n None q → TellsFrom s skip before after result
+    tell_last h = tell_stop [] (t.all ∙ ap (λ (ms : List Mark). t.done ++ ms) (pass_last t.ahead h)) all_told
 
-    pub tell_small : Small s i characters a e f q
-    tell_small = next_small p.reached a e f q h
+    module _ {m : NextMark} (h : SkipsThenYields Walks p n (Some m) q) where
+      passed : Passed s n t.left m q
+      passed = pass_next t.ahead h
 
-    pub tell_next : (now : List ℕ) (r : ℕ) → 49 ≤ length before - written
-        → PutsMark (take (i + e - (i + a)) (drop (i + a) s)) (i + a) (i + e) (characters + f) (characters + q) written after now r
-        → Telling s skip before r (told + 1) (i + (e + 2)) (characters + (q + 2)) now
-    tell_next now r room put =
-        let reached = p.reached in
-        let spells = p.spells in
-        let small = tell_small in
-        let text = mark_fields (i + a) (i + e) (characters + f) (characters + q) ++ put.answer in
-        let line = rw (part (i + a) (i + e) s (omega (arith, small.forward))) at put.is_answer in
-        let its_start = first_before reached mark h.0 f q h.1.0 h.1.1 spells in
-        let its_end = past_before reached mark h.0 f q h.1.0 h.1.1 spells in
-        let total = length-append p.text text in
-        let count = length-append p.marks (shifted i mark ∷ []) in
-        let k : written ≡ 0 + length p.text = omega (arith, p.size) in
-        let at : i + e + 2 ≡ i + (e + 2) = omega arith in
-        let counted : characters + q + 2 ≡ characters + (q + 2) = omega arith in
-        record {
-          points = p.points;
-          spells = spells;
-          passed = p.passed;
-          skipped = p.skipped;
-          marks = p.marks ++ shifted i mark ∷ [];
-          reached = rw (← append_assoc p.passed p.marks (shifted i mark ∷ []), ← at, ← counted)
-              (reach_next reached mark h.0 f q h.1.0 h.1.1);
-          text = p.text ++ text;
-          fits = λ more u n fit.
-              let left : length before - r ≡ length before - written - length text = omega (arith, put.behind) in
-              let one_more : told + 1 + n ≡ told + suc n = omega arith in
-              rw (append_snoc p.marks (shifted i mark) more, append_assoc p.text text u, one_more)
-              (p.fits (shifted i mark ∷ more) (text ++ u) (suc n) (next {a = text} room (put.answer, (line, rw (its_start, its_end))) (rw left at fit)));
-          count = omega (arith, p.count);
-          size = omega (arith, p.size, put.behind);
-          inside = omega (arith, put.short);
-          bytes = put.bytes ∙ rw (p.bytes, k) (sets_both p.text text before 0);
-        }
+      pub tell_mark : Found s m
+      tell_mark = passed.found
+
+      pub tell_next : (k : ℕ) (now : List ℕ) (r : ℕ) → k ≡ 0 → 49 ≤ length before - written
+          → PutsMark (take (m.end - m.start) (drop m.start s)) m written after now r → Telling s skip before r (told + 1) q k now
+      tell_next k now r none room put =
+          let text = mark_fields m.start m.end m.start_character m.end_character ++ put.answer in
+          let line = rw (part m.start m.end s tell_mark.forward) at put.is_answer in
+          let characters = found_characters t.spells tell_mark in
+          let total = length-append t.text text in
+          let count = length-append t.done (mark_of m ∷ []) in
+          let first : written ≡ 0 + length t.text = omega (arith, t.size) in
+          record {
+            points = t.points;
+            spells = t.spells;
+            marks = t.marks;
+            are_marks = t.are_marks;
+            few = t.few;
+            done = t.done ++ mark_of m ∷ [];
+            left = passed.rest;
+            ahead = passed.ahead;
+            all = t.all ∙ ap (λ (ms : List Mark). t.done ++ ms) passed.whole ∙ rw none (sym (append_snoc t.done (mark_of m) passed.rest));
+            text = t.text ++ text;
+            fits = λ more u j fit.
+                let left : length before - r ≡ length before - written - length text = omega (arith, put.behind) in
+                let one_more : told + 1 + j ≡ told + suc j = omega arith in
+                rw (append_snoc t.done (mark_of m) more, append_assoc t.text text u, one_more)
+                (t.fits (mark_of m ∷ more) (text ++ u) (suc j) (next {a = text} room (put.answer, (line, rw (characters.0, characters.1))) (rw left at fit)));
+            count = omega (arith, t.count);
+            size = omega (arith, t.size, put.behind);
+            inside = omega (arith, put.short);
+            bytes = put.bytes ∙ rw (t.bytes, first) (sets_both t.text text before 0);
+          }
 
 -- ---- a transcript
 module _ (s : List ℕ) (skip : ℕ) (before : List ℕ) where
@@ -268,10 +251,6 @@ module _ (s : List ℕ) (skip : ℕ) (before : List ℕ) where
         → AnswersMarks s skip before after (record { written = r; marks = 0 })
     told_long r room h put = inl (λ k. omega arith, refused_put Length after r room put)
 
-    module _ (short : length s ≤ 65536) where
-      pub told_not_utf8 : (r : ℕ) → 21 ≤ length before → (IsUtf8 s → ⊥) → PutsField 9 line_feed 0 before after r
-          → AnswersMarks s skip before after (record { written = r; marks = 0 })
-      told_not_utf8 r room h put = inr (short, inl (h, refused_put Encoding after r room put))
-
-      pub told_marks : (r : Told) → IsUtf8 s → TellsFrom s skip before after r → AnswersMarks s skip before after r
-      told_marks r u told = inr (short, inr (u, told))
+    pub told_not_utf8 : length s ≤ 65536 → (r : ℕ) → 21 ≤ length before → (IsUtf8 s → ⊥) → PutsField 9 line_feed 0 before after r
+        → AnswersMarks s skip before after (record { written = r; marks = 0 })
+    told_not_utf8 short r room h put = inr (short, inl (h, refused_put Encoding after r room put))

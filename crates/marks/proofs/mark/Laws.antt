@@ -1,18 +1,24 @@
 -- Pairs from left to right, and the first mark of a text.
-use mathlib.Core.Bool.{Bool, true, false, ◌&&◌, not, true≢false, and-true, and-false}
+use mathlib.Core.Bool.{Bool, true, false, not, true≢false, and-true, and-false}
 use mathlib.Core.List.{List}
-use mathlib.Core.Logic.{◌⊎◌, inl, inr, ⊎_elim}
-use mathlib.Core.Path.{◌≡◌, refl, sym, ◌∙◌}
+use mathlib.Core.Logic.{◌⊎◌, inl, inr}
+use mathlib.Core.Path.{◌≡◌, refl, sym, ◌∙◌, ap}
 use Prim.Native.Char.{code}
 use Prim.Native.Nat.{ℕ, zero, suc, ◌+◌, ◌-◌, ◌<◌, ◌≤◌}
 use native.Mathlib.Decide.{dec_lt}
 use native.Mathlib.Omega.{arith}
 use lib.Dec.{eqb}
-use lib.ListN.{length, get_or, get_or-eq_default}
+use lib.ListN.{length, take, drop, get_or, length-drop, get_or-eq_default}
+use lib.Seq.{get_or-drop}
 use borrow.Author.Tests.{eqb-true, eq-eqb}
+use Rattle.std.proofs.Common.{Option, Some, None, Bor}
+use Rattle.std.proofs.lemmas.Bool.{and_parts}
+use Rattle.std.proofs.lemmas.List.{get_or-take, take_rest}
+use Rattle.std.proofs.lemmas.Option.{none-some}
+use Rattle.std.specs.Array.{IsFirstChunk}
+use Rattle.std.specs.Option.{MatchOption}
 use Rattle.marks.specs.Mark.{two, pair, opening, closing, IsMark, IsFirstMark}
-use Rattle.marks.specs.Steps.{two_at}
-use Rattle.marks.specs.declared.mark.FirstMark.TheVariants.{At, NoMark}
+use Rattle.marks.specs.Steps.{Clear}
 use Rattle.marks.specs.declared.mark.Mark.{Mark}
 
 -- ---- tests
@@ -23,10 +29,6 @@ either false = inr refl
 pub clash : {A : Type 0} (b : Bool) → b ≡ true → b ≡ false → A
 clash b h k = absurd (true≢false (sym h ∙ k))
 
-both : (a b : Bool) → a && b ≡ true → (a ≡ true) × (b ≡ true)
-both true b h = (refl, h)
-both false b h = absurd (true≢false (sym h))
-
 -- ---- two brackets
 pub brackets_differ : code "[" ≡ code "]" → ⊥
 brackets_differ e = omega (arith, e)
@@ -34,7 +36,7 @@ brackets_differ e = omega (arith, e)
 module _ (b : ℕ) (s : List ℕ) (i : ℕ) where
   pub two_bytes : two b s i ≡ true → (get_or s i 0 ≡ b) × (get_or s (suc i) 0 ≡ b)
   two_bytes h =
-      let k = both (eqb (get_or s i 0) b) (eqb (get_or s (suc i) 0) b) h in
+      let k = and_parts (eqb (get_or s i 0) b) (eqb (get_or s (suc i) 0) b) h in
       (eqb-true (get_or s i 0) b k.0, eqb-true (get_or s (suc i) 0) b k.1)
 
   pub two_both : get_or s i 0 ≡ b → get_or s (suc i) 0 ≡ b → two b s i ≡ true
@@ -54,72 +56,36 @@ module _ (b : ℕ) (s : List ℕ) (i : ℕ) where
         | inr h ↦ h
       ]
 
--- ---- what is told of the brackets at a place
-module _ (s : List ℕ) (i : ℕ) where
-  tell_none : ((b : ℕ) → (b ≡ code "[") ⊎ (b ≡ code "]") → get_or s i 0 ≡ b → get_or s (suc i) 0 ≡ b → ⊥) → 0 ≡ two_at s i
-  unfolding two_at
-  tell_none n = rw (two_not (code "[") s i (n (code "[") (inl refl)), two_not (code "]") s i (n (code "]") (inr refl)))
+-- ---- two brackets, as the first chunk of a slice from i on shows them
+pub two_drop : (b : ℕ) (s : List ℕ) (i j : ℕ) → two b (drop i s) j ≡ two b s (i + j)
+two_drop b s i j =
+    let e : i + suc j ≡ suc (i + j) = omega arith in
+    rw (get_or-drop i s j 0, get_or-drop i s (suc j) 0, e)
 
-  pub tell_last : length s ≤ suc i → 0 ≡ two_at s i
-  tell_last short =
-      let nothing = get_or-eq_default s 0 short in
-      tell_none λ b kind h k. ⊎_elim (λ e. omega (arith, sym k ∙ nothing)) (λ e. omega (arith, sym k ∙ nothing)) kind
+module _ (b : ℕ) (s : List ℕ) (i : ℕ) where
+  abbrev slice_from : List ℕ
+  slice_from = take (length s - i) (drop i s)
 
-  pub tell_unlike : (get_or s (suc i) 0 ≡ get_or s i 0 → ⊥) → 0 ≡ two_at s i
-  tell_unlike n = tell_none λ b kind h k. n (k ∙ sym h)
+  two_chunk : {p : List ℕ} → IsFirstChunk slice_from p 2 → two b p 0 ≡ two b s i
+  two_chunk {p} h =
+      let e : i + 0 ≡ i = omega arith in
+      rw (h.same, get_or-take 2 slice_from 0 0 (omega arith), get_or-take 2 slice_from 1 0 (omega arith), take_rest s i, two_drop b s i 0, e)
 
-  pub tell_other : (get_or s i 0 ≡ code "[" → ⊥) → (get_or s i 0 ≡ code "]" → ⊥) → 0 ≡ two_at s i
-  tell_other n m = tell_none λ b kind h k. ⊎_elim (λ e. n (h ∙ e)) (λ e. m (h ∙ e)) kind
+  pub sees_two : {p : List ℕ} → IsFirstChunk slice_from p 2 → get_or p 0 0 ≡ b → get_or p 1 0 ≡ b → two b s i ≡ true
+  sees_two {p} c h k = sym (two_chunk c) ∙ two_both b p 0 h k
 
-  pub tell_opening : get_or s (suc i) 0 ≡ get_or s i 0 → get_or s i 0 ≡ code "[" → code "[" ≡ two_at s i
-  unfolding two_at
-  tell_opening like h = rw (two_both (code "[") s i h (like ∙ h))
-
-  pub tell_closing : get_or s (suc i) 0 ≡ get_or s i 0 → get_or s i 0 ≡ code "]" → code "]" ≡ two_at s i
-  unfolding two_at
-  tell_closing like h = rw (two_not (code "[") s i (λ e x. brackets_differ (sym e ∙ h)), two_both (code "]") s i h (like ∙ h))
-
-  pub told_opening : two_at s i ≡ code "[" → two (code "[") s i ≡ true
-  unfolding two_at
-  told_opening e =
-      elim (either (two (code "[") s i)) [
-        | inl h ↦ h
-        | inr h ↦
-            elim (either (two (code "]") s i)) [
-              | inl k ↦ absurd (omega (arith, rw (h, k) at e))
-              | inr k ↦ absurd (omega (arith, rw (h, k) at e))
-            ]
-      ]
-
-  pub told_closing : two_at s i ≡ code "]" → two (code "]") s i ≡ true
-  unfolding two_at
-  told_closing e =
-      elim (either (two (code "[") s i)) [
-        | inl h ↦ absurd (omega (arith, rw h at e))
-        | inr h ↦
-            elim (either (two (code "]") s i)) [
-              | inl k ↦ k
-              | inr k ↦ absurd (omega (arith, rw (h, k) at e))
-            ]
-      ]
-
-  pub told_other : (two_at s i ≡ code "[" → ⊥) → (two_at s i ≡ code "]" → ⊥) → (two (code "[") s i ≡ false) × (two (code "]") s i ≡ false)
-  unfolding two_at
-  told_other n m =
-      elim (either (two (code "[") s i)) [
-        | inl h ↦ absurd (n (rw h))
-        | inr h ↦
-            elim (either (two (code "]") s i)) [
-              | inl k ↦ absurd (m (rw (h, k)))
-              | inr k ↦ (h, k)
-            ]
-      ]
+  pub sees_other : (r : Option (Bor (List ℕ))) → MatchOption r (length slice_from < 2) (λ y. IsFirstChunk slice_from y.now 2) → 0 < b
+      → ((y : Bor (List ℕ)) → r ≡ Some y → get_or y.now 0 0 ≡ b → get_or y.now 1 0 ≡ b → ⊥) → two b s i ≡ false
+  sees_other (Some y) c some n = sym (two_chunk c) ∙ two_not b y.now 0 (n y refl)
+  sees_other None short some n =
+      let rest = ap length (take_rest s i) ∙ length-drop i s in
+      two_not b s i (λ h k. omega (arith, short, two_inside b s i some (two_both b s i h k)))
 
 -- ---- pairs
 pub pair_two : (b : ℕ) (s : List ℕ) (i : ℕ) → pair b s i ≡ true → two b s i ≡ true
 unfolding pair
 pair_two b s zero h = h
-pair_two b s (suc i) h = (both (two b s (suc i)) (not (pair b s i)) h).0
+pair_two b s (suc i) h = (and_parts (two b s (suc i)) (not (pair b s i)) h).0
 
 -- behind a pair of its own kind none begins that would overlap it
 pub apart : (b : ℕ) (s : List ℕ) (i : ℕ) → pair b s i ≡ true → pair b s (suc i) ≡ false
@@ -129,11 +95,6 @@ apart b s i h = rw h (and-false (two b s (suc i)))
 next_two : (b : ℕ) (s : List ℕ) (i : ℕ) → pair b s i ≡ false → pair b s (suc i) ≡ two b s (suc i)
 unfolding pair
 next_two b s i h = rw h (and-true (two b s (suc i)))
-
--- no pair just before has taken the byte at the place i
-pub record Clear (s : List ℕ) (i : ℕ) : Type 0 where
-  pub opens : opening s i ≡ two (code "[") s i
-  pub closes : closing s i ≡ two (code "]") s i
 
 pub clear_first : (s : List ℕ) → Clear s 0
 unfolding pair
@@ -222,23 +183,23 @@ pub record Open (s : List ℕ) (start i : ℕ) : Type 0 where
   pub opened : opening s (start - 2) ≡ true
   pub quiet : (j : ℕ) → start ≤ j → j < i → (opening s j ≡ false) × (closing s j ≡ false)
 
--- the bytes before the place i hold no whole mark; start is 0 where no [[ is open there
-pub record Scan (s : List ℕ) (start i : ℕ) : Type 0 where
+-- the bytes before the place i hold no whole mark; start is where a text begins, if a [[ is open there
+pub record Scan (s : List ℕ) (start : Option ℕ) (i : ℕ) : Type 0 where
   pub clear : Clear s i
   pub none : (m : Mark) → IsMark s m → i ≤ m.end
-  pub begun : 0 < start → Open s start i
-  pub shut : start ≡ 0 → (m : Mark) → IsMark s m → i + 2 ≤ m.start
+  pub begun : (a : ℕ) → start ≡ Some a → Open s a i
+  pub shut : start ≡ None → (m : Mark) → IsMark s m → i + 2 ≤ m.start
 
-pub scan_first : (s : List ℕ) → Scan s 0 0
+pub scan_first : (s : List ℕ) → Scan s None 0
 scan_first s = record {
   clear = clear_first s;
   none = λ m h. omega arith;
-  begun = λ h. absurd (omega arith);
+  begun = λ a e. absurd (none-some a e);
   shut = λ e m h. omega (arith, h.behind);
 }
 
-module _ {s : List ℕ} {start i : ℕ} (p : Scan s start i) where
-  pub at_opening : two (code "[") s i ≡ true → Scan s (i + 2) (i + 2)
+module _ {s : List ℕ} {start : Option ℕ} {i : ℕ} (p : Scan s start i) where
+  pub at_opening : two (code "[") s i ≡ true → Scan s (Some (i + 2)) (i + 2)
   at_opening two_here =
       let pair_here = opens_here p.clear two_here in
       let k : suc (suc i) ≡ i + 2 = omega arith in
@@ -246,16 +207,18 @@ module _ {s : List ℕ} {start i : ℕ} (p : Scan s start i) where
       record {
         clear = rw k at (clear_opened p.clear two_here);
         none = λ m h. past_two (p.none m h) (not_end h i pair_here.other) (not_end h (suc i) pair_here.other_next);
-        begun = λ h. record {
-          behind = omega arith;
-          reached = omega arith;
-          opened = rw j at pair_here.here;
-          quiet = λ j low high. absurd (omega arith);
-        };
-        shut = λ e. absurd (omega arith);
+        begun = λ a e.
+            let same : a ≡ i + 2 = cc in
+            rw same record {
+              behind = omega arith;
+              reached = omega arith;
+              opened = rw j at pair_here.here;
+              quiet = λ j low high. absurd (omega arith);
+            };
+        shut = λ e. cc;
       }
 
-  pub at_closing : start ≡ 0 → two (code "]") s i ≡ true → Scan s start (i + 2)
+  pub at_closing : start ≡ None → two (code "]") s i ≡ true → Scan s start (i + 2)
   at_closing z two_here =
       let pair_here = closes_here p.clear two_here in
       let k : suc (suc i) ≡ i + 2 = omega arith in
@@ -266,7 +229,7 @@ module _ {s : List ℕ} {start i : ℕ} (p : Scan s start i) where
       record {
         clear = rw k at (clear_closed p.clear two_here);
         none = λ m h. omega (arith, far m h, h.forward);
-        begun = λ h. absurd (omega arith);
+        begun = λ a e. absurd (none-some a (sym z ∙ e));
         shut = λ e. far;
       }
 
@@ -278,8 +241,8 @@ module _ {s : List ℕ} {start i : ℕ} (p : Scan s start i) where
       record {
         clear = rw k at (clear_other p.clear no_opening no_closing);
         none = λ m h. past_one (p.none m h) (not_end h i closes);
-        begun = λ low.
-            let o = p.begun low in
+        begun = λ a e.
+            let o = p.begun a e in
             record {
               behind = o.behind;
               reached = omega (arith, o.reached);
@@ -296,10 +259,10 @@ module _ {s : List ℕ} {start i : ℕ} (p : Scan s start i) where
             omega arith;
       }
 
-  pub found : 0 < start → two (code "]") s i ≡ true → IsFirstMark s (At (record { start = start; end = i }))
-  found low two_here =
-      let o = p.begun low in
-      let mark : IsMark s (record { start = start; end = i }) = record {
+  pub found : (a : ℕ) → start ≡ Some a → two (code "]") s i ≡ true → IsFirstMark s (Some (record { start = a; end = i }))
+  found a e two_here =
+      let o = p.begun a e in
+      let mark : IsMark s (record { start = a; end = i }) = record {
         behind = o.behind;
         opened = o.opened;
         closed = p.clear.closes ∙ two_here;
@@ -308,7 +271,7 @@ module _ {s : List ℕ} {start i : ℕ} (p : Scan s start i) where
       } in
       (mark, λ m h. in_order mark h (p.none m h))
 
-  pub not_found : length s ≤ i → IsFirstMark s NoMark
+  pub not_found : length s ≤ i → IsFirstMark s None
   not_found end m h =
       let late = p.none m h in
       let byte = (two_bytes (code "]") s m.end (pair_two (code "]") s m.end h.closed)).0 in

@@ -1,19 +1,19 @@
 -- All marks of a text: in order, apart from each other, and mark by mark.
 use mathlib.Core.Bool.{true}
-use mathlib.Core.List.{List, [], ◌∷◌, ◌++◌, append-nil}
+use mathlib.Core.List.{List, [], ◌∷◌}
 use mathlib.Core.Logic.{◌↔◌, ◌⊎◌, inl, inr, ⊎_elim}
 use mathlib.Core.Path.{◌≡◌, refl, sym, ◌∙◌, ap, ap₂}
 use Prim.Native.Char.{code}
 use Prim.Native.Nat.{ℕ, zero, suc, ◌+◌, ◌-◌, ◌*◌, ◌<◌, ◌≤◌}
 use native.Mathlib.Decide.{dec_lt}
 use native.Mathlib.Omega.{arith}
-use lib.ListN.{length, drop, get_or, length-append}
-use lib.Seq.{append_snoc, get_or-drop}
-use Rattle.marks.proofs.mark.Laws.{either, clash, brackets_differ, two_bytes, two_not, two_inside, pair_two, apart, Clear, clear_first, clear_closed}
+use lib.ListN.{length, drop, get_or}
+use Rattle.std.proofs.Common.{Option, Some, None}
+use Rattle.marks.proofs.mark.Laws.{either, clash, brackets_differ, two_bytes, two_not, two_inside, two_drop, pair_two, apart, clear_first, clear_closed}
 use Rattle.marks.proofs.mark.Laws.{not_end, past_one, in_order, Scan, scan_first, at_opening, at_closing, at_other, found, not_found}
 use Rattle.marks.specs.Mark.{two, pair, opening, closing, IsMark, In, RiseFrom, AreMarks, IsFirstMark}
-use Rattle.marks.specs.declared.mark.FirstMark.TheVariants.{At, NoMark}
-use Rattle.marks.specs.declared.mark.FirstMark.{FirstMark}
+use Rattle.marks.specs.Steps.{Clear, Between}
+use Rattle.marks.specs.Walk.{IsFirstFrom, NoneFrom}
 use Rattle.marks.specs.declared.mark.Mark.{Mark}
 
 -- ---- two marks of a text
@@ -85,6 +85,10 @@ rise_low i [] m r h = absurd h
 rise_low i (x ∷ ms) m r (inl e) = rw e r.0
 rise_low i (x ∷ ms) m r (inr h) = let low = rise_low (suc x.start) ms m r.1 h in omega (arith, r.0)
 
+rise_at : (i : ℕ) {j : ℕ} (ms : List Mark) → RiseFrom i ms → ((m : Mark) → In m ms → j ≤ m.start) → RiseFrom j ms
+rise_at i [] r all = tt
+rise_at i (x ∷ ms) r all = (all x (inl refl), r.1)
+
 -- what begins behind the first mark is not the first
 not_first : (x y : Mark) (ms : List Mark) → y.start < x.start → In x (y ∷ ms) → In x ms
 not_first x y ms less (inl e) = absurd (omega (arith, ap (λ (m : Mark). m.start) e))
@@ -94,25 +98,6 @@ not_first x y ms less (inr h) = h
 later_in : (x y : Mark) (ms ns : List Mark) → RiseFrom (suc x.start) ms → y.start ≤ x.start
     → ((m : Mark) → In m (x ∷ ms) → In m (y ∷ ns)) → (m : Mark) → In m ms → In m ns
 later_in x y ms ns r less all m h = not_first m y ns (omega (arith, rise_low (suc x.start) ms m r h)) (all m (inr h))
-
--- marks that are all in a list are not more than it has
-pub not_more : (i j : ℕ) (ms ns : List Mark) → RiseFrom i ms → RiseFrom j ns → ((m : Mark) → In m ms → In m ns) → length ms ≤ length ns
-not_more i j [] ns r q all = omega arith
-not_more i j (x ∷ ms) [] r q all = absurd (all x (inl refl))
-not_more i j (x ∷ ms) (y ∷ ns) r q all =
-    elim (all x (inl refl)) [
-      | inl e ↦
-          let same : y.start ≤ x.start = omega (arith, ap (λ (m : Mark). m.start) e) in
-          let rest = not_more (suc x.start) (suc y.start) ms ns r.1 q.1 (later_in x y ms ns r.1 same all) in
-          omega arith
-      | inr h ↦
-          let less = rise_low (suc y.start) ns x q.1 h in
-          let behind : (m : Mark) → In m (x ∷ ms) → In m ns = λ m k.
-          let low = rise_low x.start (x ∷ ms) m (omega arith, r.1) k in
-          not_first m y ns (omega arith) (all m k) in
-          let rest = not_more i (suc y.start) (x ∷ ms) ns r q.1 behind in
-          omega arith
-    ]
 
 -- marks that rise and are the same are in one list
 pub one_rising : (i j : ℕ) (ms ns : List Mark) → RiseFrom i ms → RiseFrom j ns → ((m : Mark) → In m ms → In m ns)
@@ -133,25 +118,7 @@ one_rising i j (x ∷ ms) (y ∷ ns) r q to from =
     heads (inr h) (inr k) =
         absurd (omega (arith, rise_low (suc y.start) ns x q.1 h, rise_low (suc x.start) ms y r.1 k))
 
--- one more mark at the end
-in_snoc : (ms : List Mark) (x m : Mark) → In m (ms ++ x ∷ []) ↔ (In m ms ⊎ (m ≡ x))
-in_snoc [] x m = (λ h. ⊎_elim inr (λ k. absurd k) h, λ h. ⊎_elim (λ k. absurd k) inl h)
-in_snoc (y ∷ ms) x m = (
-  λ h. ⊎_elim (λ e. inl (inl e)) (λ k. ⊎_elim (λ l. inl (inr l)) inr ((in_snoc ms x m).0 k)) h,
-  λ h. ⊎_elim (λ k. ⊎_elim inl (λ l. inr ((in_snoc ms x m).1 (inl l))) k) (λ e. inr ((in_snoc ms x m).1 (inr e))) h,
-)
-
-rise_snoc : (i : ℕ) (ms : List Mark) (x : Mark) → RiseFrom i ms → i ≤ x.start → ((m : Mark) → In m ms → m.start < x.start)
-    → RiseFrom i (ms ++ x ∷ [])
-rise_snoc i [] x r low all = (low, tt)
-rise_snoc i (y ∷ ms) x r low all = (r.0, rise_snoc (suc y.start) ms x r.1 (all y (inl refl)) (λ m h. all m (inr h)))
-
 -- ---- the marks of the rest of a text
-two_drop : (b : ℕ) (s : List ℕ) (i j : ℕ) → two b (drop i s) j ≡ two b s (i + j)
-two_drop b s i j =
-    let e : i + suc j ≡ suc (i + j) = omega arith in
-    rw (get_or-drop i s j 0, get_or-drop i s (suc j) 0, e)
-
 pair_drop : (b : ℕ) (s : List ℕ) (i : ℕ) → pair b s i ≡ two b s i → (j : ℕ) → pair b (drop i s) j ≡ pair b s (i + j)
 unfolding pair
 pair_drop b s i free zero = let e : i + 0 ≡ i = omega arith in two_drop b s i 0 ∙ rw e (sym free)
@@ -200,89 +167,31 @@ module _ {s : List ℕ} {i : ℕ} (clear : Clear s i) where
             (opening_drop j ∙ none.0, closing_drop j ∙ none.1);
       }
 
--- ---- mark by mark
--- ms are the marks that end before the place i, and none reaches over it
-pub record Upto (s : List ℕ) (i : ℕ) (ms : List Mark) : Type 0 where
-  pub inside : i ≤ length s
-  pub clear : Clear s i
-  pub each : (m : Mark) → In m ms ↔ (IsMark s m × (m.end < i))
-  pub rise : RiseFrom 0 ms
-  pub beyond : (m : Mark) → IsMark s m → i ≤ m.end → i + 2 ≤ m.start
-  -- each takes four brackets
-  pub few : length ms * 4 ≤ i
+-- ---- from mark to mark
+pub at_first : (s : List ℕ) → Between s 0
+at_first s = record { inside = omega arith; clear = clear_first s; beyond = λ m h low. h.behind }
 
-pub upto_first : (s : List ℕ) → Upto s 0 []
-upto_first s = record {
-  inside = omega arith;
-  clear = clear_first s;
-  each = λ m. (λ h. absurd h, λ h. absurd (omega (arith, h.1)));
-  rise = tt;
-  beyond = λ m h low. h.behind;
-  few = omega arith;
+pub after_mark : {s : List ℕ} {m : Mark} → IsMark s m → Between s (m.end + 2)
+after_mark h = record {
+  inside = end_inside h;
+  clear = clear_behind h;
+  beyond = λ o k low. let far = behind_other h k (omega arith) in omega arith;
 }
 
-module _ {s : List ℕ} {i : ℕ} {ms : List Mark} (p : Upto s i ms) where
-  -- the first mark of the rest is the next
-  module _ (m : Mark) (h : IsFirstMark (drop i s) (At m)) where
-    next : IsMark s (shifted i m)
-    next = mark_on p.clear m h.0
+-- the first mark of the rest is the first from there on
+module _ {s : List ℕ} {i : ℕ} (p : Between s i) where
+  rest_of : (o : Mark) → IsMark s o → i ≤ o.start → IsMark (drop i s) (record { start = o.start - i; end = o.end - i })
+  rest_of o k low = mark_back p.clear o k (p.beyond o k (omega (arith, k.forward)))
 
-    -- no mark ends between
-    none_between : (o : Mark) → IsMark s o → i ≤ o.end → o.end < i + m.end → ⊥
-    none_between o k low early =
-        let far = p.beyond o k low in
-        let first = h.1 (record { start = o.start - i; end = o.end - i }) (mark_back p.clear o k far) in
-        let later = behind_other k next early in
-        omega (arith, h.0.behind, k.forward)
-
-    pub upto_next : Upto s (i + m.end + 2) (ms ++ shifted i m ∷ [])
-    upto_next = record {
-      inside = omega (arith, end_inside next);
-      clear = clear_behind next;
-      each = λ o. (
-        λ k. ⊎_elim
-            (λ l. let old = (p.each o).0 l in (old.0, omega (arith, old.1)))
-            (λ e. rw e (next, omega arith))
-            ((in_snoc ms (shifted i m) o).0 k),
-        λ k. (in_snoc ms (shifted i m) o).1 (found o k.0 k.1),
-      );
-      rise = rise_snoc 0 ms (shifted i m) p.rise (omega arith) before;
-      beyond = λ o k low. let far = behind_other next k (omega arith) in omega arith;
-      few = let count = length-append ms (shifted i m ∷ []) in omega (arith, p.few, h.0.behind, h.0.forward);
-    }
-      where
-        found : (o : Mark) → IsMark s o → o.end < i + m.end + 2 → In o ms ⊎ (o ≡ shifted i m)
-        found o k early =
-            elim (dec_lt o.end i) [
-              | yes old ↦ inl ((p.each o).1 (k, old))
-              | no new ↦
-                  let late = none_between o k (omega arith) in
-                  let apart_end = not_end k (suc (i + m.end)) (apart (code "]") s (i + m.end) next.closed) in
-                  inr (one_end k next (omega arith))
-            ]
-
-        before : (o : Mark) → In o ms → o.start < i + m.start
-        before o l = let old = (p.each o).0 l in omega (arith, old.1, old.0.forward)
-
-  -- where the rest has none, these are all
-  pub upto_last : IsFirstMark (drop i s) NoMark → AreMarks s ms
-  upto_last none = record {
-    each = λ m. (λ h. ((p.each m).0 h).0, λ h. (p.each m).1 (h, ended m h));
-    rise = p.rise;
+  pub first_on : (m : Mark) → IsFirstMark (drop i s) (Some m) → IsFirstFrom s i (shifted i m)
+  first_on m h = record {
+    is_mark = mark_on p.clear m h.0;
+    from = omega arith;
+    first = λ o k low. omega (arith, h.1 (record { start = o.start - i; end = o.end - i }) (rest_of o k low));
   }
-    where
-      ended : (m : Mark) → IsMark s m → m.end < i
-      ended m h =
-          elim (dec_lt m.end i) [
-            | yes k ↦ k
-            | no k ↦
-                let rest = mark_back p.clear m h (p.beyond m h (omega arith)) in
-                absurd (none (record { start = m.start - i; end = m.end - i }) rest)
-          ]
 
-  -- they are not more than all
-  pub upto_few : (all : List Mark) → AreMarks s all → length ms ≤ length all
-  upto_few all are = not_more 0 0 ms all p.rise are.rise (λ m h. (are.each m).1 ((p.each m).0 h).0)
+  pub none_on : IsFirstMark (drop i s) None → NoneFrom s i
+  none_on none o k low = none (record { start = o.start - i; end = o.end - i }) (rest_of o k low)
 
 pub one_marks : {s : List ℕ} {ms ns : List Mark} → AreMarks s ms → AreMarks s ns → ms ≡ ns
 one_marks {ms = ms} {ns} p q =
@@ -290,46 +199,104 @@ one_marks {ms = ms} {ns} p q =
 
 -- ---- every text has its marks
 -- the search for the first mark ends, with so many steps left
-first_from : (n : ℕ) (s : List ℕ) (start i : ℕ) → length s ≤ n + i → Scan s start i → (r : FirstMark) × IsFirstMark s r
-first_from zero s start i few p = (NoMark, not_found p (omega arith))
+first_from : (n : ℕ) (s : List ℕ) (start : Option ℕ) (i : ℕ) → length s ≤ n + i → Scan s start i → (r : Option Mark) × IsFirstMark s r
+first_from zero s start i few p = (None, not_found p (omega arith))
 first_from (suc n) s start i few p =
     elim (either (two (code "[") s i)) [
-      | inl opens ↦ first_from n s (i + 2) (i + 2) (omega arith) (at_opening p opens)
+      | inl opens ↦ first_from n s (Some (i + 2)) (i + 2) (omega arith) (at_opening p opens)
       | inr unopened ↦
           elim (either (two (code "]") s i)) [
-            | inl closes ↦
-                elim (dec_lt 0 start) [
-                  | yes begun ↦ (At (record { start = start; end = i }), found p begun closes)
-                  | no shut ↦ first_from n s start (i + 2) (omega arith) (at_closing p (omega arith) closes)
-                ]
+            | inl closes ↦ ended closes (λ e. first_from n s start (i + 2) (omega arith) (at_closing p e closes)) start refl
             | inr unclosed ↦ first_from n s start (i + 1) (omega arith) (at_other p unopened unclosed)
           ]
     ]
+  where
+    ended : two (code "]") s i ≡ true → (start ≡ None → (r : Option Mark) × IsFirstMark s r) → (o : Option ℕ) → start ≡ o
+        → (r : Option Mark) × IsFirstMark s r
+    ended closes next (Some a) e = (Some (record { start = a; end = i }), found p a e closes)
+    ended closes next None e = next e
 
--- the marks of s are ms and more behind them, and each takes four brackets
-abbrev HasMarks : List ℕ → List Mark → Type 0
-HasMarks s ms = (more : List Mark) × (AreMarks s (ms ++ more) × (length (ms ++ more) * 4 ≤ length s))
+-- ms are the marks of s that begin at the place i or later
+pub record MarksFrom (s : List ℕ) (i : ℕ) (ms : List Mark) : Type 0 where
+  pub each : (m : Mark) → In m ms ↔ (IsMark s m × (i ≤ m.start))
+  pub rise : RiseFrom i ms
 
--- the marks that end before the place i and those of the rest, where the next mark leads to all
-with_rest : {s : List ℕ} {i : ℕ} {ms : List Mark} → Upto s i ms
-    → ((m : Mark) → IsFirstMark (drop i s) (At m) → HasMarks s (ms ++ shifted i m ∷ []))
-    → (r : FirstMark) × IsFirstMark (drop i s) r → HasMarks s ms
-with_rest {i = i} {ms} p next (At m, first) =
-    let all = next m first in
-    (shifted i m ∷ all.0, rw (append_snoc ms (shifted i m) all.0) at all.1)
-with_rest {ms = ms} p next (NoMark, none) = ([], rw (append-nil ms) (upto_last p none, omega (arith, p.few, p.inside)))
+pub all_from : {s : List ℕ} {ms : List Mark} → AreMarks s ms → MarksFrom s 0 ms
+all_from are = record { each = λ m. (λ h. ((are.each m).0 h, omega arith), λ k. (are.each m).1 k.0); rise = are.rise }
 
-all_from : (n : ℕ) (s : List ℕ) (i : ℕ) (ms : List Mark) → length s ≤ n + i → Upto s i ms → HasMarks s ms
-all_from zero s i ms few p =
-    with_rest p (λ m first. absurd (omega (arith, (upto_next p m first).inside)))
-    (first_from (length (drop i s)) (drop i s) 0 0 (omega arith) (scan_first (drop i s)))
-all_from (suc n) s i ms few p =
-    with_rest p (λ m first. all_from n s (i + m.end + 2) (ms ++ shifted i m ∷ []) (omega arith) (upto_next p m first))
-    (first_from (length (drop i s)) (drop i s) 0 0 (omega arith) (scan_first (drop i s)))
+from_all : {s : List ℕ} {ms : List Mark} → MarksFrom s 0 ms → AreMarks s ms
+from_all p = record { each = λ m. (λ h. ((p.each m).0 h).0, λ k. (p.each m).1 (k, omega arith)); rise = p.rise }
+
+no_more : {s : List ℕ} {i : ℕ} → NoneFrom s i → MarksFrom s i []
+no_more none = record { each = λ m. (λ h. absurd h, λ k. none m k.0 k.1); rise = tt }
+
+module _ {s : List ℕ} {i : ℕ} {m : Mark} (h : IsFirstFrom s i m) where
+  -- any other from there on begins behind it
+  behind_first : (o : Mark) → IsMark s o → i ≤ o.start → (o ≡ m) ⊎ (m.end + 4 ≤ o.start)
+  behind_first o k from =
+      elim (dec_lt m.end o.end) [
+        | yes later ↦ inr (behind_other h.is_mark k later)
+        | no not_later ↦
+            elim (dec_lt o.end m.end) [
+              | yes earlier ↦ absurd (omega (arith, behind_other k h.is_mark earlier, h.first o k from, k.forward))
+              | no same ↦ inl (one_end k h.is_mark (omega arith))
+            ]
+      ]
+
+  cons_from : {ms : List Mark} → MarksFrom s (m.end + 2) ms → MarksFrom s i (m ∷ ms)
+  cons_from {ms} p = record {
+    each = λ o. (
+      λ k. ⊎_elim (λ e. rw e (h.is_mark, h.from)) (λ l. let old = (p.each o).0 l in (old.0, omega (arith, old.1, h.is_mark.forward, h.from))) k,
+      λ k. ⊎_elim inl (λ far. inr ((p.each o).1 (k.0, omega arith))) (behind_first o k.0 k.1),
+    );
+    rise = (h.from, rise_at _ ms p.rise (λ o l. omega (arith, ((p.each o).0 l).1, h.is_mark.forward)));
+  }
+
+  -- of the marks from there on it is the first, and the others are those from behind it on
+  module _ {x : Mark} {ms : List Mark} (p : MarksFrom s i (x ∷ ms)) where
+    pub head_from : m ≡ x
+    head_from =
+        ⊎_elim (λ e. e)
+        (λ l.
+        let x_is = (p.each x).0 (inl refl) in
+        absurd (omega (arith, rise_low (suc x.start) ms m p.rise.1 l, h.first x x_is.0 x_is.1)))
+        ((p.each m).1 (h.is_mark, h.from))
+
+    pub tail_from : MarksFrom s (m.end + 2) ms
+    tail_from = record {
+      each = λ o. (λ l. (((p.each o).0 (inr l)).0, far o l), λ k. rest o k.0 k.1);
+      rise = rise_at _ ms p.rise.1 far;
+    }
+      where
+        far : (o : Mark) → In o ms → m.end + 2 ≤ o.start
+        far o l =
+            let o_is = (p.each o).0 (inr l) in
+            ⊎_elim (λ e. absurd (omega (arith, rise_low (suc x.start) ms o p.rise.1 l, ap (λ (n : Mark). n.start) (e ∙ head_from)))) (λ k. omega arith)
+            (behind_first o o_is.0 o_is.1)
+
+        rest : (o : Mark) → IsMark s o → m.end + 2 ≤ o.start → In o ms
+        rest o k low =
+            ⊎_elim (λ e. absurd (omega (arith, h.is_mark.forward, ap (λ (n : Mark). n.start) (e ∙ sym head_from)))) (λ l. l)
+            ((p.each o).1 (k, omega (arith, h.is_mark.forward, h.from)))
+
+-- each mark takes four brackets
+abbrev HasFrom : List ℕ → ℕ → Type 0
+HasFrom s i = (ms : List Mark) × (MarksFrom s i ms × (length ms * 4 ≤ length s - i))
+
+-- the first mark of the rest leads to all
+with_first : {s : List ℕ} {i : ℕ} → Between s i → ((m : Mark) → IsFirstFrom s i m → i + 2 ≤ m.start → HasFrom s (m.end + 2))
+    → (r : Option Mark) × IsFirstMark (drop i s) r → HasFrom s i
+with_first {s} {i} p next (Some m, h) =
+    let first = first_on p m h in
+    let more = next (shifted i m) first (omega (arith, h.0.behind)) in
+    (shifted i m ∷ more.0, (cons_from first more.1.0, omega (arith, more.1.1, end_inside first.is_mark, h.0.behind, h.0.forward)))
+with_first p next (None, none) = ([], (no_more (none_on p none), omega arith))
+
+has_from : (n : ℕ) (s : List ℕ) (i : ℕ) → length s ≤ n + i → Between s i → HasFrom s i
+has_from zero s i few p = ([], (no_more (λ o k low. omega (arith, end_inside k, k.forward)), omega arith))
+has_from (suc n) s i few p =
+    with_first p (λ m h low. has_from n s (m.end + 2) (omega (arith, h.is_mark.forward)) (after_mark h.is_mark))
+    (first_from (length (drop i s)) (drop i s) None 0 (omega arith) (scan_first (drop i s)))
 
 pub has_marks : (s : List ℕ) → (ms : List Mark) × (AreMarks s ms × (length ms * 4 ≤ length s))
-has_marks s = all_from (length s) s 0 [] (omega arith) (upto_first s)
-
--- the marks that end before a place are the first of all
-pub upto_all : {s : List ℕ} {i : ℕ} {ms : List Mark} → Upto s i ms → (more : List Mark) × AreMarks s (ms ++ more)
-upto_all {s} {i} {ms} p = let all = all_from (length s) s i ms (omega arith) p in (all.0, all.1.0)
+has_marks s = let all = has_from (length s) s 0 (omega arith) (at_first s) in (all.0, (from_all all.1.0, omega (arith, all.1.1)))

@@ -1,20 +1,20 @@
 -- UTF-8: characters one behind the other, how they are counted, the places between them, and how they are read.
 use mathlib.Core.Bool.{Bool, true, false, cond}
 use mathlib.Core.List.{List, [], ◌∷◌, ◌++◌, append_assoc, append-nil}
-use mathlib.Core.Logic.{inl}
-use mathlib.Core.Path.{◌≡◌, refl, sym, ◌∙◌, ap, ap₂}
+use mathlib.Core.Path.{◌≡◌, refl, sym, ◌∙◌, ap}
 use Prim.Native.Nat.{ℕ, zero, suc, ◌+◌, ◌-◌, ◌/◌, ◌<◌, ◌≤◌}
 use native.Mathlib.Decide.{dec_lt}
 use native.Mathlib.Nat.{add-zero, le_refl, sub_self, sub-zero, zero-add}
 use native.Mathlib.Numerals.{add-one}
 use native.Mathlib.Omega.{arith}
 use lib.Dec.{eqb}
-use lib.ListN.{length, take, drop, get_or, length-append, length-drop, drop_of_length-le, get_or-append}
-use lib.Seq.{slice, append_snoc, take_all, take_at, drop_at, drop-append_seam, drop-cons, drop-drop, length-take-le, get_or-append-add}
+use lib.ListN.{length, take, drop, get_or, length-append, get_or-append}
+use lib.Seq.{slice, append_snoc, take_at, drop_at, drop-cons, length-take-le, get_or-append-add}
 use borrow.Author.Tests.{le-leb, lt-leb, eq-eqb, ne_eqb}
-use Rattle.marks.proofs.utf8.Character.{Character, one, two, three, four, in_bytes, ascii_byte, one_character}
-use Rattle.marks.specs.Steps.{LeadSize, leads, leadless}
-use Rattle.marks.specs.Utf8.{encoded, spelled, CodePoints, Spells, IsUtf8, characters_before, starts}
+use Rattle.std.proofs.lemmas.Str.{encodes_same}
+use Rattle.marks.proofs.utf8.Character.{Tails, Character, one, longer, in_bytes, ascii_byte}
+use Rattle.marks.proofs.utf8.Library.{same_spelling}
+use Rattle.marks.specs.Utf8.{encoded, spelled, CodePoints, Spells, characters_before, starts}
 
 -- ---- characters one behind the other
 pub spelled_append : (xs ys : List ℕ) → spelled (xs ++ ys) ≡ spelled xs ++ spelled ys
@@ -26,20 +26,14 @@ spelled_last : (xs : List ℕ) (c : ℕ) → length (spelled (xs ++ c ∷ [])) �
 unfolding spelled
 spelled_last xs c = rw (spelled_append xs (c ∷ []), append-nil (encoded c)) (length-append (spelled xs) (encoded c))
 
-pub points_append : (xs ys : List ℕ) → CodePoints xs → CodePoints ys → CodePoints (xs ++ ys)
-points_append [] ys p q = q
-points_append (x ∷ xs) ys p q = (p.0, points_append xs ys p.1 q)
-
-pub points_split : (xs ys : List ℕ) → CodePoints (xs ++ ys) → CodePoints xs × CodePoints ys
+points_split : (xs ys : List ℕ) → CodePoints (xs ++ ys) → CodePoints xs × CodePoints ys
 points_split [] ys p = (tt, p)
 points_split (x ∷ xs) ys p = let q = points_split xs ys p.1 in ((p.0, q.0), q.1)
 
 -- a character has bytes, and one that is not ASCII two or more
 sized : {c : ℕ} {s : List ℕ} → Character c s → (1 ≤ length s) × (0x80 ≤ c → 2 ≤ length s)
 sized (one h) = omega arith
-sized (two a b h) = omega arith
-sized (three a b d h) = omega arith
-sized (four a b d e h) = omega arith
+sized (longer a b s g h t) = omega arith
 
 some_bytes : (c : ℕ) → 1 ≤ length (encoded c)
 some_bytes c = (sized (in_bytes c)).0
@@ -49,22 +43,9 @@ unfolding spelled
 spelled_length [] = omega arith
 spelled_length (c ∷ cs) = rw (length-append (encoded c) (spelled cs)) (omega (arith, some_bytes c, spelled_length cs))
 
--- a character is not spelled by no bytes
-no_character : {A : Type 0} (c : ℕ) (t : List ℕ) → [] ≡ encoded c ++ t → A
-no_character c t e = absurd (omega (arith, some_bytes c, ap length e ∙ length-append (encoded c) t))
-
-same_points : (cs ds : List ℕ) → spelled cs ≡ spelled ds → cs ≡ ds
-unfolding spelled
-same_points [] [] e = refl
-same_points [] (d ∷ ds) e = no_character d (spelled ds) e
-same_points (c ∷ cs) [] e = no_character c (spelled cs) (sym e)
-same_points (c ∷ cs) (d ∷ ds) e =
-    let k = one_character c d (spelled cs) (spelled ds) e in
-    ap₂ (λ (x : ℕ) (xs : List ℕ). x ∷ xs) k.0 (same_points cs ds k.1)
-
 -- bytes are spelled by at most one list of code points
 pub one_list : {cs ds s : List ℕ} → Spells cs s → Spells ds s → cs ≡ ds
-one_list {cs} {ds} p q = same_points cs ds (p.bytes ∙ sym q.bytes)
+one_list {cs} {ds} p q = encodes_same cs ds (same_spelling cs ∙ p.bytes ∙ sym q.bytes ∙ sym (same_spelling ds))
 
 -- ---- the bytes that begin a character
 pub starts_append : (s t : List ℕ) → starts (s ++ t) ≡ starts s + starts t
@@ -77,21 +58,22 @@ starts_append (b ∷ s) t = go (eqb (b / 64) 2) (starts_append s t)
     go true e = e
     go false e = omega arith
 
--- a character has one byte that begins it
-starts_once : {c : ℕ} {s : List ℕ} → c ≤ 0x10FFFF → Character c s → starts s ≡ 1
+no_starts : (s : List ℕ) → Tails s → starts s ≡ 0
 unfolding starts
-starts_once {c} p (one h) = rw (ne_eqb (c / 64) 2 (omega arith))
-starts_once p (two a b h) = rw (ne_eqb (a / 64) 2 (omega arith), eq-eqb (b / 64) 2 h.second)
-starts_once p (three a b d h) = rw (ne_eqb (a / 64) 2 (omega arith), eq-eqb (b / 64) 2 h.second, eq-eqb (d / 64) 2 h.third)
-starts_once p (four a b d e h) =
-    rw (ne_eqb (a / 64) 2 (omega arith), eq-eqb (b / 64) 2 h.second, eq-eqb (d / 64) 2 h.third, eq-eqb (e / 64) 2 h.fourth)
+no_starts [] t = refl
+no_starts (b ∷ s) t = rw (eq-eqb (b / 64) 2 t.0) (no_starts s t.1)
+
+-- a character has one byte that begins it
+starts_once : {c : ℕ} {s : List ℕ} → Character c s → starts s ≡ 1
+unfolding starts
+starts_once {c} (one h) = rw (ne_eqb (c / 64) 2 (omega arith))
+starts_once (longer a b s g h t) = rw (ne_eqb (a / 64) 2 (omega arith), no_starts (b ∷ s) t)
 
 -- as many bytes begin a character as there are characters
-pub starts_spelled : (cs : List ℕ) → CodePoints cs → starts (spelled cs) ≡ length cs
+pub starts_spelled : (cs : List ℕ) → starts (spelled cs) ≡ length cs
 unfolding starts spelled
-starts_spelled [] p = refl
-starts_spelled (c ∷ cs) p =
-    starts_append (encoded c) (spelled cs) ∙ rw (starts_once p.0.1 (in_bytes c), starts_spelled cs p.1) (omega arith)
+starts_spelled [] = refl
+starts_spelled (c ∷ cs) = starts_append (encoded c) (spelled cs) ∙ rw (starts_once (in_bytes c), starts_spelled cs) (omega arith)
 
 -- ---- characters before a byte place
 -- before the first byte there are none
@@ -186,12 +168,14 @@ abbrev High : List ℕ → Type 0
 High [] = Unit
 High (b ∷ s) = (0x80 ≤ b) × High s
 
+high_tails : (s : List ℕ) → Tails s → High s
+high_tails [] t = tt
+high_tails (b ∷ s) t = (omega arith, high_tails s t.1)
+
 -- the bytes of a longer character are 0x80 or more
 high : {c : ℕ} {s : List ℕ} → 0x80 ≤ c → Character c s → High s
 high g (one h) = absurd (omega arith)
-high g (two a b h) = omega arith
-high g (three a b d h) = omega arith
-high g (four a b d e h) = omega arith
+high g (longer a b s l h t) = (omega arith, high_tails (b ∷ s) t)
 
 high_at : (s : List ℕ) (i : ℕ) → High s → i < length s → 0x80 ≤ get_or s i 0
 high_at [] i g h = absurd (omega arith)
@@ -254,7 +238,7 @@ module _ {cs s : List ℕ} {i : ℕ} (p : Split cs s i) where
 
 -- between characters, those before are as many as the bytes before that begin one
 pub characters_at : {cs s : List ℕ} {i : ℕ} → Spells cs s → Split cs s i → characters_before i cs ≡ starts (take i s)
-characters_at k p = front_counts p ∙ sym (ap starts p.before ∙ starts_spelled p.front (front_points p k.points))
+characters_at k p = front_counts p ∙ sym (ap starts p.before ∙ starts_spelled p.front)
 
 -- of two fronts of one list, the one with more bytes begins with the other
 longer_front : (xs ys us vs : List ℕ) → xs ++ us ≡ ys ++ vs → length (spelled xs) ≤ length (spelled ys) → (ts : List ℕ) × (ys ≡ xs ++ ts)
@@ -282,63 +266,7 @@ between_splits {i = i} k p q h =
       front_counts q ∙ ap length f.1 ∙ length-append p.front f.0 ∙ ap (λ (n : ℕ). n + length f.0) (sym (front_counts p)),
     )
 
--- ---- reading character by character
--- what a slice from i on holds
-pub rest : (i : ℕ) (s : List ℕ) → take (length s - i) (drop i s) ≡ drop i s
-rest i s =
-    let all = length-drop i s in
-    take_all (length s - i) (drop i s) (omega arith)
-
--- the first i bytes are characters: the whole is UTF-8 exactly where the rest is
-pub record Sofar (s : List ℕ) (i : ℕ) : Type 0 where
-  pub inside : i ≤ length s
-  pub whole : IsUtf8 (drop i s) → IsUtf8 s
-  pub part : IsUtf8 s → IsUtf8 (drop i s)
-
-pub at_first : (s : List ℕ) → Sofar s 0
-at_first s = record { inside = omega arith; whole = λ u. u; part = λ u. u }
-
--- what stands behind the first character of UTF-8 is UTF-8
-behind_first : (c : ℕ) (t cs : List ℕ) → Spells cs (encoded c ++ t) → IsUtf8 t
-unfolding spelled
-behind_first c t [] k = no_character c t k.bytes
-behind_first c t (d ∷ ds) k = (ds, record { points = k.points.1; bytes = (one_character d c (spelled ds) t k.bytes).1 })
-
-module _ {s : List ℕ} {i : ℕ} (f : Sofar s i) where
-  -- a character more
-  pub another : {r : ℕ} → LeadSize (drop i s) r → (r ≡ 0 → ⊥) → Sofar s (i + r)
-  unfolding spelled
-  another {r} (leads c t p e l) n =
-      let seam = drop-append_seam (encoded c) t in
-      let b : t ≡ drop (i + r) s = rw l (sym seam ∙ ap (drop (length (encoded c))) e ∙ drop-drop (length (encoded c)) i s) in
-      record {
-        inside = omega (arith, f.inside, sym (length-append (encoded c) t) ∙ ap length e ∙ length-drop i s);
-        whole = λ u. f.whole (rw (← e) (c ∷ u.0, record { points = (p, u.1.points); bytes = rw (b, u.1.bytes) }));
-        part = λ u. rw (← b) (behind_first c t (f.part u).0 (rw e (f.part u).1));
-      }
-  another (leadless none e) n = absurd (n e)
-
-  -- where no character begins, the bytes are not UTF-8
-  pub refused : i < length s → LeadSize (drop i s) 0 → IsUtf8 s → ⊥
-  unfolding spelled
-  refused h (leads c t p e l) u = omega (arith, some_bytes c)
-  refused h (leadless none e) u = go (f.part u).0 (f.part u).1
-    where
-      go : (cs : List ℕ) → Spells cs (drop i s) → ⊥
-      go [] k = omega (arith, ap length k.bytes, length-drop i s)
-      go (c ∷ cs) k = none c (spelled cs) k.points.0 k.bytes
-
-  -- where all bytes are passed, they are UTF-8
-  pub accepted : length s ≤ i → IsUtf8 s
-  unfolding spelled
-  accepted h = f.whole ([], record { points = tt; bytes = sym (drop_of_length-le s h) })
-
--- a byte below 0x80 begins a character of one byte
-pub ascii_leads : (s : List ℕ) (i : ℕ) → i < length s → get_or s i 0 < 0x80 → LeadSize (drop i s) 1
-ascii_leads s i h low =
-    let e = ascii_byte (get_or s i 0) low in
-    leads (get_or s i 0) (drop (suc i) s) (inl (omega arith), omega arith) (rw e (sym (drop-cons s i 0 h))) (rw e)
-
+-- ---- reading byte by byte
 -- a byte more is counted where it begins a character, and passed where it does not
 module _ (s : List ℕ) (i : ℕ) (h : i < length s) where
   pub counted : (get_or s i 0 / 64 ≡ 2 → ⊥) → starts (drop i s) ≡ suc (starts (drop (i + 1) s))

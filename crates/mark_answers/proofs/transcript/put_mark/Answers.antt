@@ -8,7 +8,7 @@ use Rattle.mark_answers.proofs.transcript.put_mark.Goals.{After-put_field-4}
 -- the four fields
 fields : (c : After-put_field-4)
     → let a = c.args in
-    Fields a.output.now a.at 4 (mark_fields a.start a.end a.start_character a.end_character) c.put_field-4.new.buffer
+    Fields a.output.now a.at 4 (mark_fields a.mark.start a.mark.end a.mark.start_character a.mark.end_character) c.put_field-4.new.buffer
     (a.at + c.put_field.result + c.put_field-2.result + c.put_field-3.result + c.put_field-4.result)
 fields c =
     let few = c.requires.0 in
@@ -18,23 +18,23 @@ fields c =
     let three = next_field two room _ _ _ (omega arith) few.start_character_few c.put_field-3.ensures in
     next_field three room _ _ _ (omega arith) few.end_character_few c.put_field-4.ensures
 
-pub overflow_add-end_at : goal.overflow_add-end_at
-overflow_add-end_at c =
+pub overflow_add-at : goal.overflow_add-at
+overflow_add-at c =
     let few = c.requires.0 in
     let room = c.requires.1 in
     let one = next_field (no_field c.args.output.now c.args.at) room _ _ _ (omega arith) few.start_few c.put_field.ensures in
     omega (arith, one, room)
 
-pub overflow_add-start_character_at : goal.overflow_add-start_character_at
-overflow_add-start_character_at c =
+pub overflow_add-at-2 : goal.overflow_add-at-2
+overflow_add-at-2 c =
     let few = c.requires.0 in
     let room = c.requires.1 in
     let one = next_field (no_field c.args.output.now c.args.at) room _ _ _ (omega arith) few.start_few c.put_field.ensures in
     let two = next_field one room _ _ _ (omega arith) few.end_few c.put_field-2.ensures in
     omega (arith, two, room)
 
-pub overflow_add-end_character_at : goal.overflow_add-end_character_at
-overflow_add-end_character_at c =
+pub overflow_add-at-3 : goal.overflow_add-at-3
+overflow_add-at-3 c =
     let few = c.requires.0 in
     let room = c.requires.1 in
     let one = next_field (no_field c.args.output.now c.args.at) room _ _ _ (omega arith) few.start_few c.put_field.ensures in
@@ -42,13 +42,13 @@ overflow_add-end_character_at c =
     let three = next_field two room _ _ _ (omega arith) few.start_character_few c.put_field-3.ensures in
     omega (arith, three, room)
 
-pub overflow_add-answer_at : goal.overflow_add-answer_at
-overflow_add-answer_at c = omega (arith, fields (goal.at.overflow_add-answer_at c).After-put_field-4, c.requires.1)
+pub overflow_add-at-4 : goal.overflow_add-at-4
+overflow_add-at-4 c = omega (arith, fields (goal.at.overflow_add-at-4 c).After-put_field-4, c.requires.1)
 
 pub overflow_add-result : goal.overflow_add-result
 overflow_add-result c =
-    let put = answer_put _ _ _ _ _ _ _ (fields (goal.at.overflow_add-result c).After-put_field-4) c.requires.1 c.put_answer.ensures in
+    let put = answer_put _ _ _ _ (fields (goal.at.overflow_add-result c).After-put_field-4) c.requires.1 c.put_answer.ensures in
     omega (arith, put.short, c.requires.1)
 
 pub returns : goal.returns
-returns c = answer_put _ _ _ _ _ _ _ (fields (goal.at.returns c).After-put_field-4) c.requires.1 c.put_answer.ensures
+returns c = answer_put _ _ _ _ (fields (goal.at.returns c).After-put_field-4) c.requires.1 c.put_answer.ensures

@@ -1,5 +1,5 @@
 use Rattle.marks.proofs.transcript.Laws.{filled}
 use Rattle.marks.proofs.transcript.find_marks.Goals as goal
 
-pub returns-in-Ok : goal.returns-in-Ok
-returns-in-Ok c = filled _ _ _ _ c.in-Ok.ensures c.fill_places.ensures
+pub returns : goal.returns
+returns c = filled _ _ _ _ c.in_ok-count.ensures c.fill_places.ensures

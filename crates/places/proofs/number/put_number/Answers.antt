@@ -1,26 +1,19 @@
-use mathlib.Core.Path.{◌≡◌}
-use Prim.Native.Nat.{◌+◌, suc}
+use mathlib.Core.List.{append_assoc}
+use mathlib.Core.Path.{◌≡◌, ◌∙◌}
+use Prim.Native.Nat.{◌+◌, ◌-◌, ◌≤◌}
 use native.Mathlib.Omega.{arith}
 use lib.ListN.{length}
-use borrow.Author.Tests.{le-leb, lt-leb}
-use Rattle.places.specs.Number.{number_bytes, with_number}
+use lib.Seq.{sets-eq, drop-drop}
+use Rattle.std.proofs.Common.{rules}
+use Rattle.places.proofs.number.Laws.{number_first}
+use Rattle.places.specs.Number.{number_bytes}
 use Rattle.places.proofs.number.put_number.Goals as goal
 
-pub returns-then-buffer-lt4 : goal.returns-then-buffer-lt4
-unfolding with_number
-returns-then-buffer-lt4 c = let a = c.args in rw (lt-leb (a.at + 4) (length a.buffer.now) (omega (arith, c.if-buffer-lt4.true)))
-
-pub returns-then-at-buffer : goal.returns-then-at-buffer
-unfolding with_number
-returns-then-at-buffer c =
+pub returns-then-saturating_sub-ge4 : goal.returns-then-saturating_sub-ge4
+unfolding number_bytes
+returns-then-saturating_sub-ge4 c =
     let a = c.args in
-    rw (lt-leb (a.at + 4) (length a.buffer.now) (omega (arith, c.if-buffer-lt4.false, c.if-at-buffer.true)))
-
-pub returns : goal.returns
-unfolding number_bytes with_number
-returns c =
-    let a = c.args in
-    let one : a.at + 1 ≡ suc a.at = omega arith in
-    let two : a.at + 2 ≡ suc (suc a.at) = omega arith in
-    let three : a.at + 3 ≡ suc (suc (suc a.at)) = omega arith in
-    rw (one, two, three, le-leb (a.at + 4) (length a.buffer.now) (omega (arith, c.if-buffer-lt4.false, c.if-at-buffer.false)))
+    let room : a.at + 4 ≤ length a.buffer.now = omega arith in
+    let bytes : c.copy_from_slice.new.self ≡ number_bytes a.number = c.copy_from_slice.ensures.after ∙ search rules in
+    let size : a.at + 4 - a.at ≡ 4 = omega arith in
+    rw (bytes, size, number_first a.buffer.now a.at a.number room, sets-eq (number_bytes a.number) a.buffer.now a.at room, append_assoc, drop-drop)
