@@ -2,9 +2,8 @@
 use Rattle.std.specs.Prelude.{ℕ, ◌≤◌}
 use Rattle.datemarks.specs.declared.Taken.TheVariants.{Bytes, NotRead}
 use Rattle.datemarks.specs.declared.Taken.{Taken}
-use Rattle.std.specs.Prelude.{Ok}
 
 -- r is no more than a buffer of so many bytes has
 abbrev pub TakenInside : ℕ → Taken → Type 0
-TakenInside size (Ok n) = n ≤ size
+TakenInside size (Bytes n) = n ≤ size
 TakenInside size NotRead = Unit
