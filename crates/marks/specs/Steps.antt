@@ -1,4 +1,4 @@
--- What the private functions answer. No public promise is stated by these.
+-- What the private functions answer, and what the fields of the iterator keep. No public promise is stated by these.
 use Rattle.std.specs.Prelude.{List, ◌≡◌, ℕ, ◌+◌, ◌*◌, ◌≤◌, length}
 use Prim.Native.Char.{code}
 use Rattle.std.proofs.lemmas.List.Edits.{sets}

@@ -14,10 +14,9 @@ use Rattle.words.proofs.Told.{one_told, told_map, number_told, number_untold}
 use Rattle.words.proofs.numeral.Laws.{one_number, numeral_lacks, numeral_length}
 use Rattle.words.proofs.text.Laws.{no_false, either, one_cut, cut, known_cut}
 use Rattle.dating.proofs.anchor.Laws.{three_bytes}
-use Rattle.dating.proofs.phrase.Laws.{one_phrase, phrase_in_span}
+use Rattle.dating.proofs.phrase.Laws.{one_phrase}
 use Rattle.calendar.specs.Range.{between}
-use Rattle.calendar.specs.Span.{in_span}
-use Rattle.calendar.specs.Style.{style_letter, dates_by}
+use Rattle.calendar.specs.Style.{style_letter}
 use Rattle.calendar.specs.Year.{named}
 use Rattle.words.specs.Numeral.{numeral, numerals}
 use Rattle.words.specs.Text.{space, has, BehindLast}
@@ -126,13 +125,6 @@ module _ (s : List ℕ) where
 
   pub too_short : length s < 2 → TellsEnding None
   too_short h = unproduced (λ x g e. let b = ended x e in omega arith) refl
-
-  pub no_last_space : (from_end 2 ≡ space → ⊥) → TellsEnding None
-  no_last_space n = unproduced (λ x g e. n (ended x e).1.1.0) refl
-
-  pub no_style : style_of_letter (from_end 1) ≡ None → TellsEnding None
-  no_style h =
-      unproduced (λ x g e. let some : Some x.named.style ≡ None = sym (rw (ended x e).1.1.1 (its_letter x.named.style)) ∙ h in no_false cc) refl
 
   module _ (i : ℕ) (b : BehindLast space (take (length s - 2) s) i) where
     year_cut : (x : Ended) → GoodYear x.named → x.front ++ ending x.named ≡ s
@@ -271,7 +263,3 @@ module _ (s : List ℕ) (e : Ending) (ends : TellsEnding s (Some e)) where
 -- ---- what a reading says
 pub day_read : (s : List ℕ) (y : Style) (n k : ℕ) → ReadFrom s y n k → IsDayOfLine s (Ok n)
 day_read s y n k r = fit r.fits (produced r.line r.good r.spelled (sym r.day))
-
-pub read_in_span : (s : List ℕ) (y : Style) (n k : ℕ) → ReadFrom s y n k → in_span (dates_by y) n ≡ true
-unfolding line_day
-read_in_span s y n k r = rw r.style at (phrase_in_span r.line.named r.line.phrase n r.day)

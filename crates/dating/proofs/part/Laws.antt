@@ -136,9 +136,6 @@ module _ (s : List ℕ) where
       rw count (part_stands p h).1
 
   module _ (r : Place) (h : IsPlace s r) where
-    pub ordered : r.start ≤ r.end
-    ordered = rw (its_part r h).2 (omega arith)
-
     pub inside : r.end ≤ length s
     inside = let p = its_part r h in rw p.2 (part_stands p.0 p.1).0
 

@@ -112,13 +112,6 @@ module _ (t : NamedYear) (m d : ℕ) where
     pub date_put : (x : ℕ) → x ≡ style_letter t.style → Put s i (date_text t m d) (set c l x) (l + 1)
     date_put x e = rw (← e) (put_on (put_on (put_on p q) r) (put_byte c l x))
 
-    -- room for the letter
-    pub letter_room : i + length (date_text t m d) ≤ length s → l < length c
-    letter_room room =
-        let all = date_length in
-        let same = put_length r ∙ put_length q ∙ put_length p in
-        omega (arith, p.behind, q.behind, r.behind)
-
 pub field_length : (n c : ℕ) → length (field n c) ≡ length (numeral n) + 1
 field_length n c = length-append (numeral n) (c ∷ [])
 

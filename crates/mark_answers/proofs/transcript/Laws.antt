@@ -82,7 +82,7 @@ answer_put {before} {i} {mid} {place} s m after r p room h =
         }
 
 -- ---- the marks that are passed over
--- behind n marks of those ahead comes the mark m, and then the others
+-- after n marks of those ahead comes the mark m, and then the others
 record Passed (s : List ℕ) (n : ℕ) (ms : List Mark) (m : NextMark) (q : List ℕ × ℕ) : Type 0 where
   found : Found s m
   rest : List Mark
@@ -113,7 +113,7 @@ nothing_fits : (s cs : List ℕ) (room : ℕ) (ms : List Mark) → room < 49 →
 nothing_fits s cs room [] h = all_told
 nothing_fits s cs room (m ∷ ms) h = full h
 
--- the marks behind the first so many and before the place p are told, where n are still to be passed over
+-- the marks after the first so many and before the place p are told, where n are still to be passed over
 pub record Telling (s : List ℕ) (skip : ℕ) (before : List ℕ) (written told : ℕ) (p : List ℕ × ℕ) (n : ℕ) (after : List ℕ) : Type 0 where
   pub points : List ℕ
   pub spells : Spells points s
@@ -125,7 +125,7 @@ pub record Telling (s : List ℕ) (skip : ℕ) (before : List ℕ) (written told
   pub ahead : Ahead s p left
   pub all : drop skip marks ≡ done ++ drop n left
   pub text : List ℕ
-  -- what fits behind them is told with them
+  -- what fits after them is told with them
   pub fits : (more : List Mark) (u : List ℕ) (k : ℕ) → TellsFitting s points (length before - written) more u k
       → TellsFitting s points (length before) (done ++ more) (text ++ u) (told + k)
   pub count : told ≡ length done
@@ -170,7 +170,7 @@ module _ {s : List ℕ} {skip : ℕ} {before : List ℕ} {written told : ℕ} {p
   abbrev result : Told
   result = record { written = written; marks = told }
 
-  -- no more is told of the marks behind
+  -- no more is told of the marks ahead
   tell_stop : (more : List Mark) → drop skip t.marks ≡ t.done ++ more → TellsFitting s t.points (length before - written) more [] 0
       → TellsFrom s skip before after result
   tell_stop more whole stop =

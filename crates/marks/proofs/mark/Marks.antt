@@ -231,7 +231,7 @@ no_more : {s : List ℕ} {i : ℕ} → NoneFrom s i → MarksFrom s i []
 no_more none = record { each = λ m. (λ h. absurd h, λ k. none m k.0 k.1); rise = tt }
 
 module _ {s : List ℕ} {i : ℕ} {m : Mark} (h : IsFirstFrom s i m) where
-  -- any other from there on begins behind it
+  -- any other from there on begins after it
   behind_first : (o : Mark) → IsMark s o → i ≤ o.start → (o ≡ m) ⊎ (m.end + 4 ≤ o.start)
   behind_first o k from =
       elim (dec_lt m.end o.end) [
@@ -252,15 +252,15 @@ module _ {s : List ℕ} {i : ℕ} {m : Mark} (h : IsFirstFrom s i m) where
     rise = (h.from, rise_at _ ms p.rise (λ o l. omega (arith, ((p.each o).0 l).1, h.is_mark.forward)));
   }
 
-  -- of the marks from there on it is the first, and the others are those from behind it on
+  -- of the marks from there on it is the first, and the others are those after it
   module _ {x : Mark} {ms : List Mark} (p : MarksFrom s i (x ∷ ms)) where
     pub head_from : m ≡ x
-    head_from =
-        ⊎_elim (λ e. e)
-        (λ l.
-        let x_is = (p.each x).0 (inl refl) in
-        absurd (omega (arith, rise_low (suc x.start) ms m p.rise.1 l, h.first x x_is.0 x_is.1)))
-        ((p.each m).1 (h.is_mark, h.from))
+    head_from = ⊎_elim (λ e. e) later ((p.each m).1 (h.is_mark, h.from))
+      where
+        later : In m ms → m ≡ x
+        later l =
+            let x_is = (p.each x).0 (inl refl) in
+            absurd (omega (arith, rise_low (suc x.start) ms m p.rise.1 l, h.first x x_is.0 x_is.1))
 
     pub tail_from : MarksFrom s (m.end + 2) ms
     tail_from = record {
