@@ -12,6 +12,7 @@ mod answer;
 mod call;
 
 use answer::answer_line;
+use arrayvec::ArrayVec;
 use std::io::Read;
 
 // The bytes that are kept of a line.
@@ -20,94 +21,34 @@ const LINE: usize = 80;
 // The bytes of a block, which one read takes at most.
 const BLOCK: usize = 65536;
 
-// Where the reading stands.
-#[derive(Clone, Copy)]
-enum Reading {
-    // The present line has this many bytes kept.
-    Open(usize),
-    Ended,
-}
-
-// Ends the reading, with the reason on standard error.
-fn stopped(rt: &impl Eprint, reason: &str) -> Reading {
-    let _ = rt.eprint(reason);
-    Reading::Ended
-}
-
-// Answers the line whose bytes are kept, and begins the next.
-fn line_ended(rt: &(impl Print + Eprint), line: &[u8], kept: usize) -> Reading {
-    if kept <= line.len() {
-        if answer_line(rt, &line[0..kept]) {
-            return Reading::Open(0);
+// Answers each line of the input; an error says what failed.
+fn answer_all(rt: &HostRuntime) -> Result<(), &'static str> {
+    let mut line = ArrayVec::<u8, LINE>::new();
+    let mut block = [0u8; BLOCK];
+    // Nothing says that an input ends, so the reads are counted, up to a number that no run reaches.
+    for _ in 0..u64::MAX {
+        let got = rt.stdin().read(&mut block).or(Err("cannot read"))?;
+        if got == 0 {
+            break;
+        }
+        for byte in &block[..got] {
+            if *byte == b'\n' {
+                answer_line(rt, &line).or(Err("cannot write"))?;
+                line.clear();
+            } else {
+                // What has no room is left out.
+                let _ = line.try_push(*byte);
+            }
         }
     }
-    stopped(rt, "church_cases: cannot write\n")
+    if !line.is_empty() {
+        answer_line(rt, &line).or(Err("cannot write"))?;
+    }
+    Ok(())
 }
 
-// The reading after one more byte.
-fn with_byte(
-    rt: &(impl Print + Eprint),
-    line: &mut [u8; LINE],
-    reading: Reading,
-    byte: u8,
-) -> Reading {
-    let Reading::Open(kept) = reading else {
-        return reading;
-    };
-    if byte == b'\n' {
-        return line_ended(rt, line, kept);
-    }
-    if kept < LINE {
-        line[kept] = byte;
-        return Reading::Open(kept + 1);
-    }
-    reading
-}
-
-// The reading after the bytes of a block.
-fn with_block(
-    rt: &(impl Print + Eprint),
-    line: &mut [u8; LINE],
-    reading: Reading,
-    block: &[u8],
-) -> Reading {
-    let mut next = reading;
-    let mut i = 0;
-    while i < block.len() {
-        next = with_byte(rt, line, next, block[i]);
-        i += 1;
-    }
-    next
-}
-
-// Answers the last line where no line feed ended it.
-fn input_ended(rt: &(impl Print + Eprint), line: &[u8], kept: usize) -> Reading {
-    if kept > 0 {
-        line_ended(rt, line, kept);
-    }
-    Reading::Ended
-}
-
-// Reads once, and answers the lines that end in what came.
-fn read_block(rt: &HostRuntime, line: &mut [u8; LINE], kept: usize) -> Reading {
-    let mut block = [0u8; BLOCK];
-    let Ok(got) = rt.stdin().read(&mut block) else {
-        return stopped(rt, "church_cases: cannot read\n");
-    };
-    if got == 0 {
-        return input_ended(rt, line, kept);
-    }
-    with_block(rt, line, Reading::Open(kept), &block[..got])
-}
-
-// Nothing says that an input ends, so the reads are counted, up to a number that no run reaches.
 fn main(rt: HostRuntime) {
-    let mut line = [0u8; LINE];
-    let mut reading = Reading::Open(0);
-    for _ in 0..u64::MAX {
-        let Reading::Open(kept) = reading else {
-            return;
-        };
-        reading = read_block(&rt, &mut line, kept);
+    if let Err(reason) = answer_all(&rt) {
+        let _ = eprintln!(rt; "church_cases: {reason}");
     }
 }
