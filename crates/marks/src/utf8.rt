@@ -15,8 +15,8 @@ pub(crate) fn count_starts(text: &[u8]) -> usize
     ensures { result ≡ starts text.now }
 {
     let mut count = 0;
+    // `filter` with `count` takes twice as long
     for &byte in text {
-        // `filter` and `count` take twice as long.
         if byte / 64 != 2 {
             count += 1;
         }
