@@ -90,7 +90,7 @@ module _ {s : List ℕ} {i j : ℕ} (q : Quiet s i j) where
   }
 
   -- where a line that begins at j ends, one that begins at i does too
-  pub ends_on : {k : ℕ} → EndsAt s j k → EndsAt s i k
+  ends_on : {k : ℕ} → EndsAt s j k → EndsAt s i k
   ends_on {k} e =
       let to = e.quiet.from in
       let whole : j + (k - j) ≡ k = omega arith in

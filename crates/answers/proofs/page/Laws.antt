@@ -1,4 +1,4 @@
--- Lines counted byte by byte, and their places filled one behind the other.
+-- Lines counted by their line feeds and the last byte, and their places filled one after the other.
 use mathlib.Core.Bool.{Bool, false, not}
 use mathlib.Core.List.{List, [], ◌∷◌, ◌++◌, append-nil}
 use mathlib.Core.Logic.{◌⊎◌, inl, inr}
