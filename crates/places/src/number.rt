@@ -8,6 +8,11 @@ pub fn put_number(buffer: &mut [u8], at: usize, number: u32)
     ensures { buffer.new ≡ with_number buffer.old at number }
 {
     if buffer.len().saturating_sub(at) >= 4 {
-        buffer[at..at + 4].copy_from_slice(&number.to_le_bytes());
+        // One by one, since the library's copy takes pointers for numbers, which the build for browsers may not.
+        let bytes = number.to_le_bytes();
+        buffer[at] = bytes[0];
+        buffer[at + 1] = bytes[1];
+        buffer[at + 2] = bytes[2];
+        buffer[at + 3] = bytes[3];
     }
 }
