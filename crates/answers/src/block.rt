@@ -42,7 +42,8 @@ fn answer_ended(input: &[u8], output: &mut [u8]) -> Ended
 }
 
 // A block of the input: answers the lines that end in the first bytes of the buffer, and moves what is
-// kept of the line that is still open to its start, so that the next block can be read after it.
+// kept of the line that is still open to its start, so that the next block can be read after it. The buffer comes whole,
+// with the count of its filled bytes, since the contract says of all its bytes what they are then.
 pub fn answer_block(buffer: &mut [u8; INPUT], filled: usize, output: &mut [u8; OUTPUT]) -> Progress
     ensures { AnswersBlock (take filled buffer.old) buffer.old buffer.new output.old output.new result }
 {

@@ -104,7 +104,7 @@ fn day_number(calendar: Calendar, year: u64, month: u64, day: u64) -> u64
     start + (979 * month - 966) / 32 + (day - 1) - 367 * behind_february
 }
 
-// The day of a date of a calendar.
+// The day of a date of a calendar. The date comes as the numbers that C hands in, which go in registers, as a record does not.
 #[tactic(auto, unfolding(crate::specs::Date::day_in_calendar, crate::specs::Span::within))]
 pub fn day_in_calendar(calendar: Calendar, year: u64, month: u64, day: u64) -> Result<u32, Refusal>
     ensures { result ≡ day_in_calendar calendar year month day }

@@ -17,7 +17,7 @@ fn days_between(first: u32, second: u32) -> i32
     to - from
 }
 
-// Distance in days: the first date's refusal, then the second's.
+// Distance in days: the first date's refusal, then the second's. The two dates come as the eight numbers that C hands in.
 #[tactic(auto, using(crate::proofs::date::Laws::day_range))]
 pub fn distance_of_dates(
     style1: u64,

@@ -53,6 +53,7 @@ fn latest_of_seven(start: Start, side: Side, day: u32) -> u64
 }
 
 // The first such weekday on a side of a day, which itself counts or not; 0 where there is none.
+// No Option and no type for a weekday: the contract is an equation with a definition of numbers, which has 0 there too.
 #[tactic(auto, using(crate::proofs::weekday::Laws::first_found))]
 pub fn first_weekday(start: Start, side: Side, weekday: u64, day: u32) -> u64
     ensures { result ≡ first_weekday start side weekday day }
