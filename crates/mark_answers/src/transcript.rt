@@ -2,8 +2,9 @@
 ghost use Rattle.std.specs.Prelude.{◌+◌, ◌≤◌, length};
 ghost use Rattle.marks.specs.Steps.{Few};
 ghost use Rattle.mark_answers.specs.Steps.{PutsMark, Tellable};
-ghost use Rattle.mark_answers.specs.Transcript.{TellsFrom, AnswersMarks};
+ghost use Rattle.mark_answers.specs.Transcript.{TellsFrom, TellsNone, AnswersMarks};
 
+use calendar::refusal::Refusal;
 use dating::answer::{put_answer, put_field};
 use marks::transcript::NextMark;
 use marks::utf8::is_utf8;
@@ -52,30 +53,27 @@ fn tell_marks(text: &[u8], skip: usize, output: &mut [u8]) -> Told
     }
 }
 
-// Answers a transcript where the output has room for a refusal.
-fn answer_text(text: &[u8], skip: usize, output: &mut [u8]) -> Told
+// Tells why a transcript is refused, and no mark.
+fn tell_refusal(refusal: Refusal, output: &mut [u8]) -> Told
     requires { 21 ≤ length output.old }
-    ensures { AnswersMarks text.now skip output.old output.new result }
+    ensures { TellsNone refusal output.old output.new result }
 {
-    if text.len() > 65536 {
-        return Told {
-            written: put_field(output, 0, 2, b'\n'),
-            marks: 0,
-        };
+    Told {
+        written: put_field(output, 0, u64::from(u32::from(refusal)), b'\n'),
+        marks: 0,
     }
-    if !is_utf8(text) {
-        return Told {
-            written: put_field(output, 0, 9, b'\n'),
-            marks: 0,
-        };
-    }
-    tell_marks(text, skip, output)
 }
 
-// Tells the marks of a transcript behind the first so many, as long as the most that is told of one
+// Tells the marks of a transcript after the first so many, as long as the most that is told of one
 // has room; or the refusal 2 or 9, and no mark.
 pub fn answer_marks(text: &[u8], skip: usize, output: &mut [u8; OUTPUT]) -> Told
     ensures { AnswersMarks text.now skip output.old output.new result }
 {
-    answer_text(text, skip, output)
+    if text.len() > 65536 {
+        return tell_refusal(Refusal::Length, output);
+    }
+    if !is_utf8(text) {
+        return tell_refusal(Refusal::Encoding, output);
+    }
+    tell_marks(text, skip, output)
 }

@@ -1,6 +1,5 @@
 -- What is told of marks, put one behind the other.
 use mathlib.Core.List.{List, [], ◌∷◌, ◌++◌, map, append-nil, append_assoc}
-use mathlib.Core.Logic.{inl, inr}
 use mathlib.Core.Path.{◌≡◌, refl, sym, ◌∙◌, ap}
 use Prim.Native.Nat.{ℕ, suc, ◌+◌, ◌-◌, ◌*◌, ◌<◌, ◌≤◌}
 use native.Mathlib.Omega.{arith}
@@ -25,8 +24,7 @@ use Rattle.marks.specs.Transcript.{mark_of}
 use Rattle.marks.specs.Utf8.{Spells, IsUtf8}
 use Rattle.marks.specs.Walk.{Walks}
 use Rattle.mark_answers.specs.Steps.{PutsMark}
-use Rattle.mark_answers.specs.Transcript.{mark_fields, TellsFitting, all_told, full, next, TellsFrom, TellsNone, AnswersMarks}
-use Rattle.calendar.specs.declared.refusal.Refusal.TheVariants.{Length, Encoding}
+use Rattle.mark_answers.specs.Transcript.{mark_fields, TellsFitting, all_told, full, next, TellsFrom, TellsNone}
 use Rattle.calendar.specs.declared.refusal.Refusal.{Refusal}
 use Rattle.marks.specs.declared.mark.Mark.{Mark}
 use Rattle.marks.specs.declared.transcript.NextMark.{NextMark}
@@ -233,24 +231,13 @@ module _ {s : List ℕ} {skip : ℕ} {before : List ℕ} {written told : ℕ} {p
             bytes = put.bytes ∙ rw (t.bytes, first) (sets_both t.text text before 0);
           }
 
--- ---- a transcript
-module _ (s : List ℕ) (skip : ℕ) (before : List ℕ) where
-  -- a refusal, put alone
-  refused_put : (x : Refusal) (after : List ℕ) (r : ℕ) → 21 ≤ length before → PutsField (refusal_number x) line_feed 0 before after r
-      → TellsNone x before after (record { written = r; marks = 0 })
-  refused_put x after r room h = go (rw (le-leb (0 + 21) (length before) (omega arith)) at h)
-    where
-      go : PutsText 0 before after r (refused_text x) → TellsNone x before after (record { written = r; marks = 0 })
-      go (count, bytes) =
-          let two = refused_length x in
-          let fits : length (refused_text x) ≤ length before = omega arith in
-          record { none = refl; room = fits; count = count; bytes = bytes ∙ sets_start (refused_text x) before fits }
-
-  module _ (after : List ℕ) where
-    pub told_long : (r : ℕ) → 21 ≤ length before → 65536 < length s → PutsField 2 line_feed 0 before after r
-        → AnswersMarks s skip before after (record { written = r; marks = 0 })
-    told_long r room h put = inl (λ k. omega arith, refused_put Length after r room put)
-
-    pub told_not_utf8 : length s ≤ 65536 → (r : ℕ) → 21 ≤ length before → (IsUtf8 s → ⊥) → PutsField 9 line_feed 0 before after r
-        → AnswersMarks s skip before after (record { written = r; marks = 0 })
-    told_not_utf8 short r room h put = inr (short, inl (h, refused_put Encoding after r room put))
+-- ---- a transcript that is refused
+pub refused_put : (x : Refusal) (before after : List ℕ) (r : ℕ) → 21 ≤ length before → PutsField (refusal_number x) line_feed 0 before after r
+    → TellsNone x before after (record { written = r; marks = 0 })
+refused_put x before after r room h = go (rw (le-leb (0 + 21) (length before) (omega arith)) at h)
+  where
+    go : PutsText 0 before after r (refused_text x) → TellsNone x before after (record { written = r; marks = 0 })
+    go (count, bytes) =
+        let two = refused_length x in
+        let fits : length (refused_text x) ≤ length before = omega arith in
+        record { none = refl; room = fits; count = count; bytes = bytes ∙ sets_start (refused_text x) before fits }
