@@ -1,4 +1,5 @@
-// The writer: the day of a style as a date.
+// The writer: the day of a style as a date. Its text is put by hand and not by Display, since the contracts say which bytes stand at
+// which place of the lent buffer.
 ghost use Rattle.std.specs.Prelude.{◌≡◌, ◌+◌, ◌≤◌, length};
 ghost use Rattle.calendar.specs.Year.{named};
 ghost use Rattle.words.specs.Numeral.{numeral, field};
