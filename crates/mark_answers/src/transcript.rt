@@ -20,7 +20,7 @@ pub struct Told {
     pub marks: usize,
 }
 
-// Puts what is told of a mark, whose text is the line, at a place, and returns the place after it.
+// Puts what is told of a mark, whose text is the line, at a place, as put_answer does, and returns the place after it.
 fn put_mark(line: &[u8], mark: NextMark, output: &mut [u8], at: usize) -> usize
     requires { Few mark × (at + 49 ≤ length output.old) }
     ensures { PutsMark line.now mark at output.old output.new result }

@@ -41,7 +41,7 @@ fn count_marks(text: &[u8]) -> usize
     marks_of(text).count()
 }
 
-// Puts at a place where a mark begins and ends, in bytes and in characters, and its day or refusal.
+// Puts at a place, as put_number does, where a mark begins and ends, in bytes and in characters, and its day or refusal.
 fn put_place(places: &mut [u8], at: usize, mark: NextMark, number: u32)
     requires { (at + 20 ≤ length places.old) × Few mark }
     ensures { places.new

@@ -3,6 +3,7 @@ ghost use Rattle.std.specs.Prelude.{◌≡◌};
 ghost use Rattle.places.specs.Number.{with_number};
 
 // Puts a number into a buffer, from the byte at on; where fewer than four bytes stand there, nothing is put.
+// The buffer comes with a place, since the contract speaks of the one as of the other.
 #[tactic(auto, unfolding(crate::specs::Number::with_number))]
 pub fn put_number(buffer: &mut [u8], at: usize, number: u32)
     ensures { buffer.new ≡ with_number buffer.old at number }

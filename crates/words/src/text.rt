@@ -22,11 +22,12 @@ pub(crate) fn joined(low: u32, high: u32) -> u64
     u64::from(low) + HIGHER * u64::from(high)
 }
 
-// Whether the first so many bytes, 4 to 12, are the word with these two numbers: first and last four, and the middle four with their count.
-pub(crate) fn is_word(text: &[u8], count: usize, outer: u64, inner: u64) -> bool
-    requires { (4 ≤ count) × (count ≤ 12) × (count ≤ length text.now) }
-    ensures { result ≡ (eqb (outer_of text.now count) outer && eqb (inner_of text.now count) inner) }
+// Whether 4 to 12 bytes are the word with these two numbers: first and last four, and the middle four with how many they are.
+pub(crate) fn is_word(text: &[u8], outer: u64, inner: u64) -> bool
+    requires { (4 ≤ length text.now) × (length text.now ≤ 12) }
+    ensures { result ≡ (eqb (outer_of text.now (length text.now)) outer && eqb (inner_of text.now (length text.now)) inner) }
 {
+    let count = text.len();
     joined(four_at(text, 0), four_at(text, count - 4)) == outer
         && joined(four_at(text, (count - 4) / 2), count as u32) == inner
 }

@@ -148,5 +148,5 @@ pub fn feast_of_word(word: &[u8]) -> Option<u64>
     }
     let slot = slot(*first, *third, length);
     let inner = inner_in(slot);
-    is_word(word, length, outer_in(slot), inner % FEAST).then_some(inner / FEAST)
+    is_word(word, outer_in(slot), inner % FEAST).then_some(inner / FEAST)
 }
