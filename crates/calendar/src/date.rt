@@ -38,8 +38,7 @@ impl Month {
         if self.number == 2 && leap_year {
             return 29;
         }
-        let i = (self.number - 1) as usize;
-        MONTH_LENGTHS[i] as u64
+        u64::from(MONTH_LENGTHS[(self.number - 1) as usize])
     }
 
     // The days of a common year before the month.

@@ -40,15 +40,12 @@ pub enum Start {
 fn latest_of_seven(start: Start, side: Side, day: u32) -> u64
     ensures { result ≡ latest_of_seven start side day }
 {
-    match side {
-        Side::After => match start {
-            Start::Counted => day as u64 + 13,
-            Start::Uncounted => day as u64 + 14,
-        },
-        Side::Before => match start {
-            Start::Counted => day as u64 + 7,
-            Start::Uncounted => day as u64 + 6,
-        },
+    let day = u64::from(day);
+    match (side, start) {
+        (Side::After, Start::Counted) => day + 13,
+        (Side::After, Start::Uncounted) => day + 14,
+        (Side::Before, Start::Counted) => day + 7,
+        (Side::Before, Start::Uncounted) => day + 6,
     }
 }
 
