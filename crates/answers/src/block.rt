@@ -34,6 +34,7 @@ fn answer_ended(input: &[u8], output: &mut [u8]) -> Ended
 {
     let mut written = 0;
     let mut start = 0;
+    // From line feed to line feed, and by no iterator of lines, since the last line is open and stays.
     while let Some(end) = end_from(input, start) {
         written += put_answer(&input[start..end], output, written);
         start = end + 1;
@@ -55,7 +56,7 @@ pub fn answer_block(buffer: &mut [u8; INPUT], filled: usize, output: &mut [u8; O
 }
 
 // The end of the input: answers the last line, where no line feed ended it and its bytes are the first
-// of the buffer.
+// of the buffer, which is public and so comes as answer_block has it.
 pub fn answer_last(buffer: &[u8; INPUT], filled: usize, output: &mut [u8; OUTPUT]) -> usize
     ensures { AnswersLast (take filled buffer.now) output.old output.new result }
 {

@@ -57,7 +57,7 @@ pub fn fill_page(page: &[u8], places: &mut [u8]) -> Result<usize, Refusal>
     Ok(count)
 }
 
-// Why a page is refused where size bytes of places are lent: 2, or 0 where it is not.
+// Why a page is refused where size bytes of places are lent: 2, or 0 where it is not. A number, since this is public and may not change.
 pub fn page_refusal(page: &[u8], size: usize) -> u32
     ensures { result ≡ refusal_or_zero (page_answer page.now size) }
 {

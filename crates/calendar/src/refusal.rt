@@ -7,7 +7,7 @@ ghost use Rattle.calendar.specs.Refusal.{refusal_number, refusal_or_zero, number
 pub enum Refusal {
     // A style or feast number is not in its list.
     Name,
-    // A line is empty or too long, a transcript too long, a buffer too short, or the places too few.
+    // A line is empty or too long, a page or a transcript too long, a buffer too short, or the places too few.
     Length,
     // The grammar does not produce the line.
     Form,

@@ -74,7 +74,8 @@ impl Calendar {
         first + 365 * n + n / 4 + hundreds / 4 - hundreds
     }
 
-    // An estimate of the year that holds a day of the span: that year or the one before.
+    // An estimate of the year that holds a day of the span: that year or the one before. The day comes by its calendar and is no SpanDay,
+    // here and in date_in_calendar, since the proof over what dates_by returns did not close.
     #[tactic(auto, using(crate::proofs::span::Laws::span_range))]
     fn year_estimate(self, day: u64) -> u64
         requires { in_span self day ≡ true }

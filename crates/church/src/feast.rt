@@ -1,4 +1,4 @@
-// Feasts by their numbers: 1 to 23 hang on Easter, 24 to 47 are fixed, 48 is advent.
+// Feasts by their numbers, as the scope lists them and its tables are indexed: 1 to 23 hang on Easter, 24 to 47 are fixed, 48 is advent.
 ghost use Rattle.std.specs.Prelude.{◌≡◌, ◌≤◌};
 ghost use Rattle.church.specs.Feast.{advent, rule, rule_day, feast_in_year, feast_of_year};
 

@@ -47,6 +47,7 @@ fn answer_all(rt: &HostRuntime) -> Result<(), &'static str> {
     Ok(())
 }
 
+// The exit status is 0 also after a failure, which is told on standard error.
 fn main(rt: HostRuntime) {
     if let Err(reason) = answer_all(&rt) {
         let _ = eprintln!(rt; "church_cases: {reason}");

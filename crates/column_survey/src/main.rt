@@ -11,7 +11,7 @@ use column::luna_one;
 
 // How many years have a sheet, how many days of the column were walked in them, and how many limits
 // of the column are the sheet's.
-#[derive(Clone, Copy)]
+#[derive(Clone, Copy, Default)]
 struct Tally {
     years: u64,
     days: u64,
@@ -21,11 +21,7 @@ struct Tally {
 // The tally of a style's years.
 #[tactic(auto, using(church::proofs::Claims::luna_found))]
 fn survey(style: Style) -> Tally {
-    let mut tally = Tally {
-        years: 0,
-        days: 0,
-        limits: 0,
-    };
+    let mut tally = Tally::default();
     for year in 1..=9999 {
         let Ok(sheet) = sheet_in_year(NamedYear { style, year }) else {
             continue;

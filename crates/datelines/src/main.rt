@@ -9,7 +9,7 @@ fn put(rt: &impl Print, output: &[u8]) -> Result<(), &'static str> {
     rt.write_all(output).map_err(|_| "datelines: cannot write")
 }
 
-// Answers the lines that come, and returns why where a read or a write fails.
+// Answers the lines that come; a read or a write that fails ends it.
 fn run(rt: &HostRuntime) -> Result<(), &'static str> {
     let mut buffer = [0u8; INPUT];
     let mut output = [0u8; OUTPUT];

@@ -10,7 +10,7 @@ use calendar::span::SpanDay;
 
 // Puts a number and a byte after it at a place of a buffer, and returns how many bytes they are; where
 // fewer than 21 bytes stand there, which the longest number and the byte have, nothing is put, and 0 is returned.
-// The buffer comes with a place, and the answer is no Option, since the contract speaks of both, PutsField; so it is with PutsAnswer below.
+// The buffer comes with a place, and 0 is no None, since the contract says both, here and of put_answer; so do those that these call.
 pub fn put_field(buffer: &mut [u8], at: usize, number: u64, behind: u8) -> usize
     ensures { PutsField number behind at buffer.old buffer.new result }
 {

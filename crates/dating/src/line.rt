@@ -106,7 +106,7 @@ pub fn day_of_line(line: &[u8]) -> Result<u32, Refusal>
     Ok(reading_of_line(line)?.day.number)
 }
 
-// The one number of the answer to a dating line: its day, or the refusal 2, 3, 4, 5 or 6.
+// The one number of the answer to a dating line: its day, or the refusal 2, 3, 4, 5 or 6. A number, since this is public and may not change.
 pub fn number_of_line(line: &[u8]) -> u32
     ensures { IsNumberOfLine line.now result }
 {

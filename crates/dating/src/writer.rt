@@ -17,7 +17,7 @@ fn digit_count(number: u64) -> usize
 {
     let mut count = 1;
     let mut rest = number;
-    // No index is counted: the number is divided until one digit is left, and the library counts no digits.
+    // No index is counted: the number is divided as its numeral is, of which the library's logarithm, told by powers, says less plainly.
     while rest >= 10 {
         rest /= 10;
         count += 1;

@@ -1,7 +1,8 @@
 // Calls of date to day, day to date, weekday and distance, each printed with its arguments and its
 // answer: the ends of the spans and their neighbours, leap days, refusals, and numbers up to
 // 2^64 - 1. A day or its refusal is one number; a weekday or a distance is two, the refusal or 0
-// and the value or 0; a date that is refused is the refusal's number alone.
+// and the value or 0; a date that is refused is the refusal's number alone. What cannot be printed is
+// dropped, and the status stays 0.
 #![tactic(auto)]
 
 use calendar::date::{date_of_day, day_of_date};

@@ -1,5 +1,6 @@
 // Every day of each style's span, walked in order with a date and a weekday of the program's own
-// counting, and held against day to date, date to day and weekday.
+// counting, by styles' numbers as a user has them, and held against day to date, date to day and weekday. What cannot be printed is
+// dropped, and the status stays 0.
 #![tactic(auto)]
 
 use calendar::date::{CalendarDate, date_of_day, day_of_date};

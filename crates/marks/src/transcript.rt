@@ -60,6 +60,7 @@ fn fill_places(text: &[u8], places: &mut [u8])
     ensures { FillsPlaces text.now places.old places.new }
 {
     let mut place = 0;
+    // By places and not over chunks of twenty, since no contract says what a slice holds after its chunks are written.
     for mark in marks_of(text) {
         let number = number_of_line(&text[mark.start..mark.end]);
         put_place(places, place, mark, number);
@@ -95,6 +96,7 @@ pub fn find_marks(text: &[u8], places: &mut [u8]) -> Result<usize, Refusal>
 }
 
 // Why a transcript's marks are refused where places of so many bytes are lent: 2 or 9, or 0 where they are not.
+// A number, since this is public and may not change.
 pub fn marks_refusal(text: &[u8], size: usize) -> u32
     ensures { TellsRefusal text.now size result }
 {

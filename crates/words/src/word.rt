@@ -11,7 +11,8 @@ use crate::text::is_word;
 const FEAST: u64 = 1 << 40;
 
 // The first four and the last four bytes of the word in a slot, as one number.
-// An empty slot's 0 is told by no bytes of a word, so it needs no case of its own.
+// An empty slot's 0 is told by no bytes of a word, so it needs no case of its own. Two tables and not one of pairs, as of wrappers: each match is
+// one table of numbers for the compiler.
 #[tactic(auto, unfolding(crate::specs::Steps::four, crate::specs::Steps::held), using(crate::proofs::word::Laws::no_feast))]
 fn outer_in(slot: usize) -> u64
     ensures { result ≡ outer_in feast_slot feast_word 48 slot }

@@ -1,6 +1,6 @@
 // Calls of the writer, each printed with its arguments, which are a style, a day and the length of the
 // lent buffer: then the number of bytes or the refusal's number, and then the whole buffer, which
-// held `#` before, so that it is seen which bytes are changed.
+// held `#` before, so that it is seen which bytes are changed. What cannot be printed is dropped, and the status stays 0.
 #![tactic(auto)]
 
 use dating::writer::write_date;
@@ -97,11 +97,9 @@ fn buffers(rt: &impl Print) {
         (OLD_EASTER, 5373484),
         (OLD_EASTER, 5373485),
     ] {
-        ask_with(rt, style, day, &mut [b'#'; 0]);
-        ask_with(rt, style, day, &mut [b'#'; 7]);
-        ask_with(rt, style, day, &mut [b'#'; 11]);
-        ask_with(rt, style, day, &mut [b'#'; 12]);
-        ask_with(rt, style, day, &mut [b'#'; 13]);
+        for length in [0, 7, 11, 12, 13] {
+            ask_with(rt, style, day, &mut [b'#'; 13][..length]);
+        }
     }
 }
 
