@@ -48,8 +48,8 @@ abbrev pub wrapper_slot : List ℕ → ℕ
 wrapper_slot s = (2 * get_or s 1 0 + 4 * get_or s 2 0 + get_or s 4 0) % 32
 
 -- the wrappers by number: a weekday's own, with 8 added for "before" and 16 where the starting day counts; 0, 8 and 32 for the others
-abbrev pub wrapper_of : ℕ → Wrapper
-wrapper_of n =
+abbrev pub numbered_wrapper : ℕ → Wrapper
+numbered_wrapper n =
     cond (eqb n 0) Eve
     (cond (eqb n 8) Morrow
     (cond (eqb n 32) Octave
@@ -60,7 +60,7 @@ abbrev pub bare_number : ℕ → ℕ
 bare_number k = cond (ltb k 17) (pred k) 32
 
 abbrev pub bare_words : ℕ → List ℕ
-bare_words k = wrapper_words (wrapper_of (bare_number k))
+bare_words k = wrapper_words (numbered_wrapper (bare_number k))
 
 -- what a slot holds of the words that have it: the first and the last four bytes, and the four from the fourth on with the number
 abbrev pub middle_for : ℕ → ℕ

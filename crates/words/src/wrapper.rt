@@ -1,7 +1,7 @@
 // Wrappers: each without "on or" has a slot, told by three bytes, and is then compared with what the slot holds, as feast words are. Where "on or" stands
 // behind a weekday, it is passed over, and what remains is told in the same way.
 ghost use Rattle.std.specs.Prelude.{cond, ◌≡◌, ◌+◌, ◌*◌, ◌%◌, ◌≤◌, eqb, length, Some, None};
-ghost use Rattle.words.specs.Steps.{wrapper_outer, wrapper_middle, count_by, MayLead, eight_of, more_by, wrapper_of, LeadTold};
+ghost use Rattle.words.specs.Steps.{wrapper_outer, wrapper_middle, count_by, MayLead, eight_of, more_by, numbered_wrapper, LeadTold};
 ghost use Rattle.words.specs.Told.{Told};
 ghost use Rattle.words.specs.Wrapper.{leadings, lead};
 
@@ -148,8 +148,8 @@ fn if_counted(more: usize, number: usize) -> usize
 }
 
 // The wrapper with a number.
-fn wrapper_of(number: u64) -> Wrapper
-    ensures { result ≡ wrapper_of number }
+fn numbered_wrapper(number: u64) -> Wrapper
+    ensures { result ≡ numbered_wrapper number }
 {
     match number {
         0 => Wrapper::Eve,
@@ -188,7 +188,7 @@ fn lead_by(phrase: &[u8], more: usize, count: usize) -> Option<Lead>
     // Where the starting day counts, the number is by 16 greater.
     let number = told / HIGHER + if_counted(more, 16) as u64;
     Some(Lead {
-        wrapper: wrapper_of(number),
+        wrapper: numbered_wrapper(number),
         length: count,
     })
 }

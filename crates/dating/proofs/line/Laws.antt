@@ -123,9 +123,6 @@ module _ (s : List ℕ) where
         ),
       )
 
-  pub too_short : length s < 2 → TellsEnding None
-  too_short h = unproduced (λ x g e. let b = ended x e in omega arith) refl
-
   module _ (i : ℕ) (b : BehindLast space (take (length s - 2) s) i) where
     year_cut : (x : Ended) → GoodYear x.named → x.front ++ ending x.named ≡ s
         → (0 < i) × (x.front ≡ take (i - 1) (take (length s - 2) s)) × (numeral x.named.year ≡ drop i (take (length s - 2) s))

@@ -2,9 +2,8 @@
 use mathlib.Core.Bool.{Bool, true, false, ◌&&◌, and-eq-true_iff}
 use mathlib.Core.List.{List, [], ◌∷◌, ◌++◌}
 use mathlib.Core.Path.{◌≡◌, refl, sym, ◌∙◌, ap, ap₂}
-use Prim.Native.Nat.{ℕ, ◌≤◌}
-use native.Mathlib.Omega.{arith}
-use lib.ListN.{length, drop, length-append}
+use Prim.Native.Nat.{ℕ}
+use lib.ListN.{length, drop}
 use lib.Seq.{append_snoc, drop-append_seam}
 use Rattle.calendar.proofs.refusal.Laws.{no_day, passed}
 use Rattle.words.proofs.Told.{OneReading}
@@ -98,14 +97,6 @@ leads s l (produced x g e m) =
     rw same (refl, g, rw d e)
 
 module _ (s : List ℕ) (l : Lead) (begins : Told leadings (λ x. Some (lead x)) None s (Some l)) where
-  pub shorter : (1 ≤ l.length) × (l.length ≤ length s)
-  shorter =
-      let x = spaced l.wrapper in
-      let long = ap length x.1 ∙ length-append x.0 (space ∷ []) in
-      let whole = sym (ap length (leads s l begins).2) ∙ length-append (wrapper_words l.wrapper) (drop l.length s) in
-      let count = (leads s l begins).0 in
-      (omega arith, omega arith)
-
   pub wrapped_told : (t : NamedYear) (r : Result ℕ Refusal) → Told phrases (phrase_day t) (Err Form) (drop l.length s) r
       → Told phrases (phrase_day t) (Err Form) s (acted (dates_by t.style) l.wrapper r)
   unfolding spell_phrase GoodPhrase

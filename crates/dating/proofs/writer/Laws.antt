@@ -7,7 +7,7 @@ use native.Mathlib.Decide.{dec_lt}
 use native.Mathlib.Omega.{arith}
 use lib.ListN.{length, set, length-append}
 use lib.Seq.{sets, length-sets, set_comm, set-set}
-use borrow.Author.Tests.{le-leb, lt-leb}
+use borrow.Author.Tests.{le-leb}
 use Rattle.places.proofs.Bytes.{sets_both, sets_start}
 use Rattle.calendar.proofs.date.Laws.{date_small, day_date, one_answer_in_calendar}
 use Rattle.calendar.proofs.range.Laws.{in_range}
@@ -27,7 +27,7 @@ use Rattle.dating.specs.Phrase.{plain, spell_phrase, GoodPhrase, anchor_of, come
 use Rattle.dating.specs.Steps.{Put, PutsDate}
 use Rattle.dating.specs.Writer.{date_text, IsDateText, write_tests, Refuses, Puts, WritesInStyle}
 use Rattle.calendar.specs.declared.refusal.Refusal.{Refusal}
-use Rattle.calendar.specs.declared.refusal.Refusal.TheVariants.{Length, Span}
+use Rattle.calendar.specs.declared.refusal.Refusal.TheVariants.{Span}
 use Rattle.calendar.specs.declared.style.Style.{Style}
 use Rattle.calendar.specs.declared.year.NamedYear.{NamedYear}
 use Rattle.std.specs.Prelude.{Result, Ok, Err}
@@ -137,9 +137,6 @@ pub day_put : (s : Style) (n y m d : ℕ) {i r : ℕ} {before after : List ℕ} 
 day_put s n y m d e p = (date_text (named s y) m d, (record { year = y; month = m; day = d; is_date = e; text = refl }, p))
 
 module _ (s : Style) (n : ℕ) (before : List ℕ) where
-  pub too_short : length before < 12 → WritesInStyle before before (Err Length) s n
-  too_short h = rw (lt-leb 12 (length before) h) (refl, refl)
-
   module _ (room : 12 ≤ length before) where
     pub outside : (x : Refusal) → x ≡ Span → in_span (dates_by s) n ≡ false → WritesInStyle before before (Err x) s n
     outside x e out = rw (le-leb 12 (length before) room, out) (ap Err e, refl)

@@ -19,7 +19,7 @@ use Rattle.words.proofs.text.Laws.{within}
 use Rattle.std.specs.Prelude.{Option, Some, None}
 use Rattle.calendar.specs.Range.{between}
 use Rattle.words.specs.Steps.{four, outer_of, held, outer_for, wrapper_slot, bare_number, bare_words, middle_for, wrapper_outer, wrapper_middle}
-use Rattle.words.specs.Steps.{wrapper_of, Wordless, MayLead, count_by, eight_at, eight_of, more_by, LeadTold}
+use Rattle.words.specs.Steps.{numbered_wrapper, Wordless, MayLead, count_by, eight_at, eight_of, more_by, LeadTold}
 use Rattle.words.specs.Text.{bytes, space, has}
 use Rattle.words.specs.Told.{Told, produced, unproduced}
 use Rattle.words.specs.Wrapper.{weekday_word, start_words, wrapper_words, GoodWrapper, leadings, lead}
@@ -56,8 +56,8 @@ by_wrapper P p (First Uncounted Before d) g = each_at (λ d. P (First Uncounted 
 by_wrapper P p (First Counted After d) g = each_at (λ d. P (First Counted After d)) 7 p.5 d g
 by_wrapper P p (First Counted Before d) g = each_at (λ d. P (First Counted Before d)) 7 p.6 d g
 
-numbered : (w : Wrapper) → GoodWrapper w → wrapper_of (number_of w) ≡ w
-numbered = by_wrapper (λ w. wrapper_of (number_of w) ≡ w) (search depth 20)
+numbered : (w : Wrapper) → GoodWrapper w → numbered_wrapper (number_of w) ≡ w
+numbered = by_wrapper (λ w. numbered_wrapper (number_of w) ≡ w) (search depth 20)
 
 -- ---- the words without "on or" by their slot
 all_worded : T (each (λ k. every (worded wrapper_slot bare_words 17 32 (suc k))) 17)
@@ -201,10 +201,10 @@ no_space s h short = plain (λ w g t e. omega (arith, reads w g t e h, there w g
 -- ---- where the fours of s agree with what a slot holds
 -- an index with the bytes more that are told is that of a good wrapper, by its number
 abbrev Known : ℕ → ℕ → Type 0
-Known more x = let w = wrapper_of (bare_number x + if_on_or more 16) in GoodWrapper w × (more_of w ≡ more) × (index_of w ≡ x)
+Known more x = let w = numbered_wrapper (bare_number x + if_on_or more 16) in GoodWrapper w × (more_of w ≡ more) × (index_of w ≡ x)
 
 known : {more x : ℕ} → Known more x → (w : Wrapper) × (GoodWrapper w × Facts w more x)
-known {more} {x} k = let w = wrapper_of (bare_number x + if_on_or more 16) in (w, (k.0, rw (k.1, k.2) at (facts w k.0)))
+known {more} {x} k = let w = numbered_wrapper (bare_number x + if_on_or more 16) in (w, (k.0, rw (k.1, k.2) at (facts w k.0)))
 
 -- it is so where the fifth byte of the index's words is the last of the eight that tell "on or after" or "on or before"
 abbrev Lettered : ℕ → ℕ → Type 0
@@ -218,7 +218,7 @@ all_known = (search arith depth 30, search arith depth 40, search arith depth 40
 abbrev Standing : List ℕ → (l x e more : ℕ) → Type 0
 Standing s l x e more =
     eight_of s ≡ e → l ≡ count_by (four s 3) + more → four s (3 + if_on_or more 6) ≡ four (bare_words x) 3
-    → Leads s (Some (record { wrapper = wrapper_of (bare_number x + if_on_or more 16); length = l }))
+    → Leads s (Some (record { wrapper = numbered_wrapper (bare_number x + if_on_or more 16); length = l }))
 
 module _ (s : List ℕ) (bs : Bytes s) {l x : ℕ} (room : l ≤ length s) (good : (1 ≤ x) × (x ≤ 17)) (outer : outer_of s l ≡ outer_for bare_words x) where
   stands : {more e : ℕ} (w : Wrapper) → GoodWrapper w → Facts w more x → four s 3 ≡ four (wrapper_words w) 3
@@ -229,7 +229,7 @@ module _ (s : List ℕ) (bs : Bytes s) {l x : ℕ} (room : l ≤ length s) (good
       let ends = both_fours s v bs (small_bytes w g) 0 (l - 4) 0 (length v - 4) (outer ∙ sym f.outer) in
       let all = same_word s v bs (small_bytes w g) (0 ∷ 3 ∷ (3 + (if_on_or more 6 - 2)) ∷ (3 + if_on_or more 6) ∷ (length v - 4) ∷ [])
       (ends.0, (low, (high, (middle ∙ sym f.middle, (rw fits at ends.1, tt))))) (omega (arith, f.long, few more 6)) (omega arith) in
-      let number = ap wrapper_of (sym f.number) ∙ numbered w g in
+      let number = ap numbered_wrapper (sym f.number) ∙ numbered w g in
       produced (record { wrapper = w; rest = drop (length v) s }) g all
       (ap₂ (λ (w : Wrapper) (n : ℕ). Some (record { wrapper = w; length = n })) number fits)
 
@@ -286,7 +286,7 @@ module _ (s : List ℕ) {more l : ℕ} (h : LeadTold s more l) {skip i o m : ℕ
       omega (arith, rw none at (z (λ k. k)))
 
   pub these_words : Bytes s → l ≤ length s → four s 0 + 4294967296 * four s (l - 4) ≡ o → m % 4294967296 ≡ four s (3 + skip)
-      → {c : ℕ} → c ≡ if_on_or more 16 → Leads s (Some (record { wrapper = wrapper_of (m / 4294967296 + c); length = l }))
+      → {c : ℕ} → c ≡ if_on_or more 16 → Leads s (Some (record { wrapper = numbered_wrapper (m / 4294967296 + c); length = l }))
   these_words bs room eo em hc =
       elim (holds (λ k. wrapper_slot (bare_words k)) 17 i) [
         | inl k ↦
@@ -309,7 +309,7 @@ one_wrapper v w a b gv gw e =
     let slots = sym (rw more at (slotted v gv a e)) ∙ slotted w gw b refl in
     let index = one_slot wrapper_slot bare_words 17 32 all_worded (index_of v) (index_of w) (facts v gv).index (facts w gw).index slots in
     let number : number_of v ≡ number_of w = (facts v gv).number ∙ rw (index, more) (sym (facts w gw).number) in
-    let same = sym (numbered v gv) ∙ ap wrapper_of number ∙ numbered w gw in
+    let same = sym (numbered v gv) ∙ ap numbered_wrapper number ∙ numbered w gw in
     let behind = ap (drop (length (wrapper_words w))) (rw same at e) in
     (same, sym (drop-append_seam (wrapper_words w) a) ∙ behind ∙ drop-append_seam (wrapper_words w) b)
 

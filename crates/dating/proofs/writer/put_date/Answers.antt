@@ -1,7 +1,7 @@
 use Rattle.dating.proofs.writer.Laws.{date_put}
 use Rattle.calendar.specs.Year.{named}
 use Rattle.dating.proofs.writer.put_date.Goals as goal
-use Rattle.dating.proofs.writer.put_date.Goals.{After-put_number-letter_at, After-put_number-month_at, After-put_number-year_at, Start}
+use Rattle.dating.proofs.writer.put_date.Goals.{After-put_number-letter_at}
 
 pub returns : goal.returns
 returns c =

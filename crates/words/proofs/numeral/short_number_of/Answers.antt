@@ -1,4 +1,3 @@
-use mathlib.Core.Path.{◌∙◌}
 use native.Mathlib.Omega.{arith}
 use Rattle.words.proofs.numeral.Laws.{no_numeral, too_many, first_digit, begun, longer, short}
 use Rattle.words.proofs.numeral.short_number_of.Goals as goal
@@ -30,11 +29,11 @@ returns c =
           let some = w.in-len1.len_at_least in
           let few = w.in-len1.len_below in
           let one = begun c.args.text.now some (omega arith) w.in_ok-n-in-len1.ensures in
-          short one (omega arith) (c.from-n.ensures ∙ w.n-is) (omega (arith, w.in_ok-n-in-len1.ensures)) _
+          short one (omega arith) (omega (arith, c.from-n.ensures, w.n-is)) (omega (arith, w.in_ok-n-in-len1.ensures)) _
       | in-len2+in_ok-first_digit-in-len2+in_ok-n-in-len2 w ↦
           let some = w.in-len2.len_at_least in
           let few = w.in-len2.len_below in
           let one = begun c.args.text.now (omega arith) (omega arith) w.in_ok-first_digit-in-len2.ensures in
           let two = longer one (omega arith) w.in_ok-n-in-len2.ensures in
-          short two (omega arith) (c.from-n.ensures ∙ w.n-is) (omega (arith, w.in_ok-first_digit-in-len2.ensures, w.in_ok-n-in-len2.ensures)) _
+          short two (omega arith) (omega (arith, c.from-n.ensures, w.n-is)) (omega (arith, w.in_ok-first_digit-in-len2.ensures, w.in_ok-n-in-len2.ensures)) _
     ])

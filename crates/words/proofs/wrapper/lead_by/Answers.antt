@@ -33,7 +33,7 @@ returns-then-told-from c =
 
 pub returns : goal.returns
 returns c =
-    rw c.wrapper_of.ensures
+    rw c.numbered_wrapper.ensures
     (these_words c.args.phrase.now c.requires.0 c.if_counted-skip.ensures c.slot-slot.ensures c.outer_in.ensures c.middle_in-told.ensures
     (λ i. omega (arith, c.type_inv.phrase i)) c.requires.1 (sym (ends (goal.at.returns c).After-outer_in) ∙ c.if-joined-outer_in.false)
     (c.if-told-from.false ∙ c.from.ensures ∙ c.four_at-3.ensures) c.if_counted.ensures)
