@@ -31,7 +31,8 @@ pub(crate) fn count_feeds(bytes: &[u8]) -> usize
     counted + rest.iter().filter(|&&byte| byte == b'\n').count()
 }
 
-// How many of the eight bytes of a number, from the lowest on, are 0 before the first that is not.
+// How many of the eight bytes of a number, from the lowest on, are 0 before the first that is not; 8, where all are, is a count as
+// the others are, to which before_feed adds, so it is no missing place.
 fn zero_bytes(number: u64) -> usize
     ensures { result ≡ count_trailing_zeros 64 number / 8 }
 {

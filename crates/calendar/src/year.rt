@@ -11,7 +11,8 @@ const J_NEW_YEAR: u64 = 1721424;
 
 const G_NEW_YEAR: u64 = 1721426;
 
-// A style and a year of it. Where a call is not put inside its caller, the two go by themselves, and so do a calendar and a year: in registers, as a record does not.
+// A style and a year of it. Where a call is not put inside its caller, the two go by themselves, and so do a calendar and a year:
+// in registers, as a record does not.
 #[derive(Clone, Copy, PartialEq, Eq)]
 pub struct NamedYear {
     pub style: Style,

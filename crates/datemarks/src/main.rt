@@ -15,6 +15,7 @@ const INPUT: usize = 65537;
 // those that were told, and one that tells none is the last.
 fn tell(rt: &impl Print, text: &[u8], output: &mut [u8; OUTPUT]) -> Result<(), &'static str> {
     let mut skip = 0;
+    // No iterator, since each call writes over what the one before told.
     loop {
         let told = answer_marks(text, skip, output);
         rt.write_all(&output[..told.written])

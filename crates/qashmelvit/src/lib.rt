@@ -97,7 +97,7 @@ pub extern "C" fn qv_weekday(style: u64, day_number: u64) -> u32
     weekday_of_day(style, day_number).unwrap_or(0)
 }
 
-// Why two dates have no distance: the first date's refusal, then the second's, or 0.
+// Why two dates have no distance: the first date's refusal, then the second's, or 0. The eight numbers, here and below, are those of the header.
 #[unsafe(no_mangle)]
 pub extern "C" fn qv_distance_refusal(
     style1: u64,

@@ -6,7 +6,7 @@ ghost use Rattle.words.specs.Text.{BehindLast};
 // What the higher of two fours in one number is multiplied by.
 pub(crate) const HIGHER: u64 = 1 << 32;
 
-// The four bytes from a place on as one number, the first the lowest.
+// The four bytes from a place on as one number, the first the lowest; a text with a place, as the definition has it.
 #[tactic(auto, unfolding(crate::specs::Steps::four))]
 pub(crate) fn four_at(text: &[u8], at: usize) -> u32
     requires { at + 4 ≤ length text.now }

@@ -70,7 +70,8 @@ fn outer_in(slot: usize) -> u64
     }
 }
 
-// The four bytes in the middle of the word in a slot, 2^32 times its length and 2^40 times the number of its feast, as one number; 0 where there is none.
+// The four bytes in the middle of the word in a slot, 2^32 times its length and 2^40 times the number of its feast, as one number; 0 where there is none,
+// as in outer_in.
 #[tactic(auto, unfolding(crate::specs::Steps::four, crate::specs::Steps::held), using(crate::proofs::word::Laws::no_feast))]
 fn inner_in(slot: usize) -> u64
     ensures { result ≡ inner_in feast_slot feast_word 48 slot }

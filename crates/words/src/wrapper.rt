@@ -25,7 +25,8 @@ pub struct Lead {
     pub length: usize,
 }
 
-// The first four and the last four bytes of the words in a slot, as one number.
+// The first four and the last four bytes of the words in a slot, as one number. These tables are not those of feast words, which hold a length
+// and a feast where these hold a wrapper's number; an empty slot's 0 is told by no words, so it is no missing value.
 #[tactic(auto, unfolding(crate::specs::Steps::four, crate::specs::Steps::held), using(crate::proofs::wrapper::Laws::no_wrapper))]
 fn outer_in(slot: usize) -> u64
     ensures { result ≡ wrapper_outer slot }
@@ -79,7 +80,8 @@ fn middle_in(slot: usize) -> u64
     }
 }
 
-// The slot of three bytes, by factors found by trial, with which no two wrappers without "on or" share one.
+// The slot of three bytes, by factors found by trial, with which no two wrappers without "on or" share one. That of feast words takes a length,
+// and other bytes and factors, so one for both would be no plainer.
 fn slot(second: u8, third: u8, fifth: u8) -> usize
     ensures { result ≡ (2 * second + 4 * third + fifth) % 32 }
 {
@@ -140,7 +142,7 @@ fn more_by(eight: u64) -> usize
     }
 }
 
-// The number where "on or" stands, and else 0.
+// The number where "on or" stands, and else 0, which is added as the number is.
 fn if_counted(more: usize, number: usize) -> usize
     ensures { result ≡ cond (eqb more 0) 0 number }
 {
