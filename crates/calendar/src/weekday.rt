@@ -40,13 +40,14 @@ pub enum Start {
 fn latest_of_seven(start: Start, side: Side, day: u32) -> u64
     ensures { result ≡ latest_of_seven start side day }
 {
-    let day = u64::from(day);
-    match (side, start) {
-        (Side::After, Start::Counted) => day + 13,
-        (Side::After, Start::Uncounted) => day + 14,
-        (Side::Before, Start::Counted) => day + 7,
-        (Side::Before, Start::Uncounted) => day + 6,
-    }
+    // What is added is taken without a branch, where a sum in each case would be one.
+    let added = match (side, start) {
+        (Side::After, Start::Counted) => 13,
+        (Side::After, Start::Uncounted) => 14,
+        (Side::Before, Start::Counted) => 7,
+        (Side::Before, Start::Uncounted) => 6,
+    };
+    u64::from(day) + added
 }
 
 // The first such weekday on a side of a day, which itself counts or not; 0 where there is none.

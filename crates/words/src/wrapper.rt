@@ -153,23 +153,26 @@ fn if_counted(more: usize, number: usize) -> usize
 fn numbered_wrapper(number: u64) -> Wrapper
     ensures { result ≡ numbered_wrapper number }
 {
-    match number {
-        0 => Wrapper::Eve,
-        8 => Wrapper::Morrow,
-        32 => Wrapper::Octave,
-        _ => {
-            let start = if number < 16 {
-                Start::Uncounted
-            } else {
-                Start::Counted
-            };
-            let side = if number / 8 % 2 == 0 {
-                Side::After
-            } else {
-                Side::Before
-            };
-            Wrapper::First(start, side, number % 8)
-        }
+    let start = if number < 16 {
+        Start::Uncounted
+    } else {
+        Start::Counted
+    };
+    let side = if number / 8 % 2 == 0 {
+        Side::After
+    } else {
+        Side::Before
+    };
+    // Told by tests and no match, of which the compiler makes a choice without a branch.
+    let first = Wrapper::First(start, side, number % 8);
+    if number == 0 {
+        Wrapper::Eve
+    } else if number == 8 {
+        Wrapper::Morrow
+    } else if number == 32 {
+        Wrapper::Octave
+    } else {
+        first
     }
 }
 
