@@ -29,12 +29,12 @@ tests: kit
 
 # The worked calls with their answers, from the proved library.
 answers: kit
-	@tests/run days_cases </dev/null
-	@tests/run church_cases <crates/church_cases/stdin
+	@build/run days_cases </dev/null
+	@build/run church_cases <crates/church_cases/stdin
 
 # The archive for C programs, target/staticlib/libqashmelvit.a.
 lib: kit
-	tests/built qashmelvit
+	build/crate qashmelvit
 
 # The build for browsers, target/wasm.
 wasm: kit
@@ -46,8 +46,8 @@ bench: kit
 
 # Header, archive, pkg-config file, programs and manual pages, below DESTDIR and PREFIX.
 install: prefix lib
-	tests/built datelines
-	tests/built datemarks
+	build/crate datelines
+	build/crate datemarks
 	packaging/install "$$QV_DESTDIR" "$$QV_PREFIX"
 
 uninstall:
@@ -59,5 +59,5 @@ prefix:
 
 # The folder is one that the kit serves, and the kit is the one that the project is proved with.
 kit:
-	@tests/place
-	@tests/kit
+	@build/place
+	@build/kit
