@@ -1,5 +1,5 @@
 .POSIX:
-.PHONY: check tests answers lib wasm bench install uninstall prefix kit
+.PHONY: help check tests placed answers lib wasm bench install uninstall prefix kit tools
 .NOTPARALLEL:
 
 PREFIX = /usr/local
@@ -9,55 +9,71 @@ unexport PREFIX DESTDIR
 export QV_PREFIX := $(value PREFIX)
 export QV_DESTDIR := $(value DESTDIR)
 
-# The whole test; the last line is rt ci's 'N passed, 0 failed'.
-check: tests
-	tests/anywhere
-	tests/gate
+help:
+	@sed -n 's/^## //p' Makefile
+	@build/kit || :
 
-# All of it but the proofs of every crate from nothing, the refused edits, and the same tests at another place.
-tests: kit
+## make check      proves everything, tries the refused edits and runs all tests; the last line is 'N passed, 0 failed'
+check: kit tools
+	tests/gate prove
+	@$(MAKE) --no-print-directory tests
+	tests/anywhere
+	tests/gate verdict
+
+## make tests      runs the tests alone, over what they build
+tests: kit tools
+	tests/compare
 	tests/header
 	tests/edits
+	tests/counts
 	tests/second
 	tests/c/run
 	tests/web/run
-	tests/script
 	tests/program
 	tests/marks
-	tests/install
-	tests/examples
+	tests/building
+	@$(MAKE) --no-print-directory placed
 
-# The worked calls with their answers, from the proved library.
-answers: kit
+# The tests that depend on the folder's path, the environment or how make is called.
+placed:
+	tests/script
+	tests/install
+	tests/expressions
+	tests/sessions
+
+## make answers    prints the worked calls with their answers
+answers:
 	@build/run days_cases </dev/null
 	@build/run church_cases <crates/church_cases/stdin
 
-# The archive for C programs, target/staticlib/libqashmelvit.a.
-lib: kit
+## make lib        builds the archive for C programs, target/staticlib/libqashmelvit.a
+lib:
 	build/crate qashmelvit
 
-# The build for browsers, target/wasm.
-wasm: kit
+## make wasm       fills target/wasm with the build for browsers
+wasm:
 	web/build
 
-# Times of the calls on dates, on pages and on transcripts, and of datelines, which are no part of the test.
-bench: kit
+## make bench      measures the calls, the program and plain Rust beside them
+bench:
 	bench/run
 
-# Header, archive, pkg-config file, programs and manual pages, below DESTDIR and PREFIX.
+## make install    installs header, archive, programs and manual pages below DESTDIR and PREFIX, by default /usr/local
 install: prefix lib
 	build/crate datelines
 	build/crate datemarks
 	packaging/install "$$QV_DESTDIR" "$$QV_PREFIX"
 
+## make uninstall  removes what make install put there
 uninstall:
 	packaging/uninstall "$$QV_DESTDIR" "$$QV_PREFIX"
 
-# A bad PREFIX is told before anything is proved.
+# A bad PREFIX is refused before anything is proved.
 prefix:
 	@packaging/prefix "$$QV_PREFIX"
 
-# The folder is one that the kit serves, and the kit is the one that the project is proved with.
 kit:
-	@build/place
 	@build/kit
+
+tools:
+	@build/tools

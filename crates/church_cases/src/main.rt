@@ -14,6 +14,7 @@ mod call;
 use answer::answer_line;
 use arrayvec::ArrayVec;
 use std::io::Read;
+use std::process::ExitCode;
 
 // The bytes that are kept of a line.
 const LINE: usize = 80;
@@ -47,9 +48,13 @@ fn answer_all(rt: &HostRuntime) -> Result<(), &'static str> {
     Ok(())
 }
 
-// The exit status is 0 also after a failure, which is told on standard error.
-fn main(rt: HostRuntime) {
-    if let Err(reason) = answer_all(&rt) {
-        let _ = eprintln!(rt; "church_cases: {reason}");
+// The exit status is 1 where the input cannot be read or the output not written.
+fn main(rt: HostRuntime) -> ExitCode {
+    match answer_all(&rt) {
+        Ok(()) => ExitCode::SUCCESS,
+        Err(reason) => {
+            let _ = eprintln!(rt; "church_cases: {reason}");
+            ExitCode::FAILURE
+        }
     }
 }

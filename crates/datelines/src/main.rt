@@ -4,6 +4,7 @@
 
 use answers::block::{INPUT, OUTPUT, answer_block, answer_last};
 use std::io::Read;
+use std::process::ExitCode;
 
 fn put(rt: &impl Print, output: &[u8]) -> Result<(), &'static str> {
     rt.write_all(output).map_err(|_| "datelines: cannot write")
@@ -32,9 +33,13 @@ fn run(rt: &HostRuntime) -> Result<(), &'static str> {
     Ok(())
 }
 
-// The exit status is 0 also after a failure, which the scripts tell by what stands on standard error.
-fn main(rt: HostRuntime) {
-    if let Err(failure) = run(&rt) {
-        let _ = rt.eprintln(failure);
+// The exit status is 1 where the input cannot be read or the output not written.
+fn main(rt: HostRuntime) -> ExitCode {
+    match run(&rt) {
+        Ok(()) => ExitCode::SUCCESS,
+        Err(failure) => {
+            let _ = rt.eprintln(failure);
+            ExitCode::FAILURE
+        }
     }
 }

@@ -7,6 +7,7 @@ ghost use Rattle.datemarks.specs.Reading.{TakenInside};
 
 use mark_answers::transcript::{OUTPUT, answer_marks};
 use std::io::Read;
+use std::process::ExitCode;
 
 // The bytes of the buffer for input: one more than the longest transcript has, so that a longer one is seen.
 const INPUT: usize = 65537;
@@ -53,9 +54,13 @@ fn run(rt: &HostRuntime) -> Result<(), &'static str> {
     tell(rt, &input[..count], &mut output)
 }
 
-// The exit status is 0 also after a failure, which the scripts tell by what stands on standard error.
-fn main(rt: HostRuntime) {
-    if let Err(failure) = run(&rt) {
-        let _ = rt.eprintln(failure);
+// The exit status is 1 where the input cannot be read or the output not written.
+fn main(rt: HostRuntime) -> ExitCode {
+    match run(&rt) {
+        Ok(()) => ExitCode::SUCCESS,
+        Err(failure) => {
+            let _ = rt.eprintln(failure);
+            ExitCode::FAILURE
+        }
     }
 }
