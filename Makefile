@@ -24,6 +24,7 @@ check: kit tools
 tests: kit tools
 	tests/compare
 	tests/header
+	tests/prototypes
 	tests/edits
 	tests/counts
 	tests/second
@@ -37,6 +38,7 @@ tests: kit tools
 # The tests that depend on the folder's path, the environment or how make is called.
 placed:
 	tests/script
+	tests/prefix
 	tests/install
 	tests/expressions
 	tests/sessions
