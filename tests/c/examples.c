@@ -55,8 +55,9 @@ int main(void)
     char lines[502] = "";
 
     answer_line("tue after quasimodo 1587 G");
+    answer_line("1.1 1 J");
     answer_line("29.2 1900 G");
-    print_page("easter 1225 J\n\n29.2 1900 G\n");
+    print_page("easter 1225 J\n\n29.2 1900 G\n1.1 1 J\n");
     memset(lines, '\n', sizeof lines - 1);
     print_page(lines);
     answer_marks("Ren\303\251: [[easter 1225 J]], not [[29.2 1900 G]]");
