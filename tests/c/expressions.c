@@ -1,6 +1,7 @@
 /*
- * Runs the C of the header's comments, which tests/examples puts into the files in quotes: prints
- * what its functions and lines find, and on standard error each expression that does not hold.
+ * Runs the C of the header's comments, which tests/expressions puts into the files in quotes:
+ * prints what its functions and lines find, and on standard error each expression that does not
+ * hold.
  */
 #include <qashmelvit.h>
 
