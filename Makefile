@@ -28,6 +28,7 @@ tests: kit tools
 	tests/edits
 	tests/counts
 	tests/second
+	tests/expressions
 	tests/c/run
 	tests/web/run
 	tests/program
@@ -40,7 +41,6 @@ placed:
 	tests/script
 	tests/prefix
 	tests/install
-	tests/expressions
 	tests/sessions
 
 ## make answers    prints the worked calls with their answers
