@@ -4,7 +4,8 @@
 
 PREFIX = /usr/local
 
-# What PREFIX and DESTDIR hold goes to the scripts as it is, through their environment, and is no text of make or of a shell.
+# What PREFIX and DESTDIR hold goes to the scripts as it is, through their environment, and is no
+# text of make or of a shell.
 unexport PREFIX DESTDIR
 export QV_PREFIX := $(value PREFIX)
 export QV_DESTDIR := $(value DESTDIR)
