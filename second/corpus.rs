@@ -2,6 +2,7 @@
 //! make is printed once. The answers are no part of it.
 
 use crate::feasts::words;
+use crate::kinds::{Inputs, Kind, kinds, print_sample, quoted};
 use crate::lines::{STYLES, WEEKDAYS};
 use std::collections::HashSet;
 use std::io::Write;
@@ -44,7 +45,7 @@ const ENDS: [(i32, i32, &str); 6] = [
 ];
 
 /// Every kind of line, in the order of printing.
-const KINDS: [fn(&mut Corpus); 49] = [
+const KINDS: &[Kind<Corpus>] = kinds![
     good,
     feasts,
     wrapped_feasts,
@@ -97,6 +98,7 @@ const KINDS: [fn(&mut Corpus); 49] = [
 ];
 
 /// The lines in the order in which they came first.
+#[derive(Default)]
 struct Corpus {
     lines: Vec<Line>,
     seen: HashSet<Line>,
@@ -109,6 +111,16 @@ impl Corpus {
         if self.seen.insert(line.clone()) {
             self.lines.push(line);
         }
+    }
+}
+
+impl Inputs for Corpus {
+    fn count(&self) -> usize {
+        self.lines.len()
+    }
+
+    fn shown(&self, number: usize) -> String {
+        quoted(&self.lines[number])
     }
 }
 
@@ -758,8 +770,8 @@ fn random_with_on_or(corpus: &mut Corpus) {
 
 /// The lines of all kinds.
 pub fn lines() -> Vec<Line> {
-    let mut corpus = Corpus { lines: vec![], seen: HashSet::new() };
-    KINDS.iter().for_each(|kind| kind(&mut corpus));
+    let mut corpus = Corpus::default();
+    KINDS.iter().for_each(|(_, add)| add(&mut corpus));
     corpus.lines
 }
 
@@ -768,4 +780,9 @@ pub fn print() -> ExitCode {
     let text: Vec<u8> = lines().into_iter().flat_map(|line| [line, vec![b'\n']].concat()).collect();
     std::io::stdout().write_all(&text).expect("the lines can be printed");
     ExitCode::SUCCESS
+}
+
+/// Prints the sample of the lines.
+pub fn sample() -> ExitCode {
+    print_sample(KINDS, Corpus::default(), "lines")
 }

@@ -5,6 +5,7 @@ mod cases;
 mod corpus;
 mod days;
 mod feasts;
+mod kinds;
 mod lines;
 mod marks;
 mod outside;
@@ -35,7 +36,9 @@ usage: second cases < LINES             compares lines 'CALL NUMBERS: ANSWER' wi
        second transcripts               prints cases 'SIZE: PIECE PIECE ..' of transcripts, good and bad
        second transcript N < CASES      writes the bytes of the Nth case's transcript
        second pages < CASES             prints 'REFUSAL COUNT' and for each line ' NUMBER'
-       second page_cases                prints cases 'SIZE: PIECE PIECE ..' of pages of lines, good and bad";
+       second page_cases                prints cases 'SIZE: PIECE PIECE ..' of pages of lines, good and bad
+       second sample WHAT               prints of the lines, pages or transcripts how many there are of each kind, and the
+                                        first and the last of them";
 
 fn main() -> ExitCode {
     let words: Vec<String> = std::env::args().skip(1).collect();
@@ -56,6 +59,9 @@ fn main() -> ExitCode {
         ["transcript", number] => pieces::write(number, lines),
         ["pages"] => pieces::answer(lines, pages::answered),
         ["page_cases"] => page_cases::print(),
+        ["sample", "lines"] => corpus::sample(),
+        ["sample", "pages"] => page_cases::sample(),
+        ["sample", "transcripts"] => transcripts::sample(),
         _ => {
             eprintln!("{USAGE}");
             ExitCode::from(2)

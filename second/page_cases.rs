@@ -2,6 +2,7 @@
 //! places. Each kind of page is a function here, and a case that several kinds make is printed once. The answers are no part of it.
 
 use crate::corpus::{GOOD, Line, Numbers, all_wrappers, lines, random_edit, random_line};
+use crate::kinds::{Kind, kinds, print_sample};
 use crate::lines::day_or_refusal;
 use crate::pages::{LONGEST, PLACE, lines_of};
 use crate::stored::{Repeated, Stored, filled, lengths_about, strings};
@@ -9,7 +10,7 @@ use crate::transcripts::REFUSED;
 use std::process::ExitCode;
 
 /// Every kind of page, in the order of printing.
-const KINDS: [fn(&mut Stored); 25] = [
+const KINDS: &[Kind<Stored>] = kinds![
     examples,
     short_pages,
     feeds_and_letters,
@@ -369,5 +370,10 @@ fn random_full_pages(pages: &mut Stored) {
 
 /// Prints the cases of all kinds, each in a line.
 pub fn print() -> ExitCode {
-    Stored::new(needed, PLACE, &MORE).print(&KINDS)
+    Stored::new(needed, PLACE, &MORE).print(KINDS)
+}
+
+/// Prints the sample of the cases.
+pub fn sample() -> ExitCode {
+    print_sample(KINDS, Stored::new(needed, PLACE, &MORE), "pages 'BYTES LENT FOR PLACES: PIECE PIECE ..'")
 }

@@ -7,7 +7,7 @@ use std::io::{BufRead, BufWriter, Write};
 use std::process::ExitCode;
 
 /// How often the bytes come, and the bytes.
-type Piece = (usize, Vec<u8>);
+pub type Piece = (usize, Vec<u8>);
 
 pub struct Case {
     pub size: usize,

@@ -1,6 +1,7 @@
 //! Cases of texts as they are gathered to be stored: each kind of text is a function that adds its cases, each with the number of
 //! bytes that are lent for places, and a case that several kinds make is printed once.
 
+use crate::kinds::{Inputs, Kind, quoted_case};
 use crate::pieces::Case;
 use std::collections::HashSet;
 use std::process::ExitCode;
@@ -70,10 +71,20 @@ impl Stored {
     }
 
     /// Prints the cases of all these kinds, each in a line.
-    pub fn print(mut self, kinds: &[fn(&mut Stored)]) -> ExitCode {
-        kinds.iter().for_each(|kind| kind(&mut self));
+    pub fn print(mut self, kinds: &[Kind<Stored>]) -> ExitCode {
+        kinds.iter().for_each(|(_, add)| add(&mut self));
         self.cases.iter().for_each(|case| println!("{case}"));
         ExitCode::SUCCESS
+    }
+}
+
+impl Inputs for Stored {
+    fn count(&self) -> usize {
+        self.cases.len()
+    }
+
+    fn shown(&self, number: usize) -> String {
+        quoted_case(&Case::read(&self.cases[number]).expect("each line is a case"))
     }
 }
 

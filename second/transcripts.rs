@@ -2,13 +2,14 @@
 //! Each kind of transcript is a function here, and a case that several kinds make is printed once. The answers are no part of it.
 
 use crate::corpus::{GOOD, Numbers, all_wrappers, lines, random_line};
+use crate::kinds::{Kind, kinds, print_sample};
 use crate::marks::{LONGEST, PLACE, marks};
 use crate::pieces::Case;
 use crate::stored::{Stored, filled, lengths_about, strings};
 use std::process::ExitCode;
 
 /// Every kind of transcript, in the order of printing.
-const KINDS: [fn(&mut Stored); 27] = [
+const KINDS: &[Kind<Stored>] = kinds![
     examples,
     bracket_strings,
     bracket_runs,
@@ -459,5 +460,10 @@ fn random_long_texts(transcripts: &mut Stored) {
 
 /// Prints the cases of all kinds, each in a line.
 pub fn print() -> ExitCode {
-    Stored::new(needed, PLACE, &MORE).print(&KINDS)
+    Stored::new(needed, PLACE, &MORE).print(KINDS)
+}
+
+/// Prints the sample of the cases.
+pub fn sample() -> ExitCode {
+    print_sample(KINDS, Stored::new(needed, PLACE, &MORE), "transcripts 'BYTES LENT FOR PLACES: PIECE PIECE ..'")
 }
