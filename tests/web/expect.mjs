@@ -20,12 +20,13 @@ assert.deepEqual(exported.sort(), [...calls, 'global __stack_pointer', 'memory m
 // Node 18 takes the script for a module by what stands beside it, where later ones see it by themselves.
 assert.deepEqual(JSON.parse(readFileSync(new URL('package.json', file), 'utf8')), { type: 'module' });
 
-// The memory of what was loaded last, which the script keeps to itself.
+// The memory and the stack's place of what was loaded last, which the script keeps to itself.
 let memory;
+let stack;
 const { instantiate } = WebAssembly;
 WebAssembly.instantiate = async (...given) => {
     const instance = await instantiate(...given);
-    memory = instance.exports.memory;
+    ({ memory, __stack_pointer: stack } = instance.exports);
     return instance;
 };
 
@@ -175,7 +176,7 @@ for (const [text, count] of [['x', 65536], ['é', 32768], ['😀', 16384]]) {
 assert.deepEqual(line(EASTER), { ...easter, start: 0, length: 6 });
 assert.equal(memory.buffer.byteLength, room);
 
-// A call that ends where the stack of JavaScript runs out takes nothing from the later ones.
+// A call that ends where the stack of JavaScript runs out takes nothing from the later ones, wherever in the call that is.
 function deep(call) {
     try {
         deep(call);
@@ -191,10 +192,12 @@ function deep(call) {
 function deeper(more, call) {
     return more > 0 ? deeper(more - 1, call) : deep(call);
 }
-for (let more = 0; more < 100; more++) {
-    deeper(more % 37, () => marks(letter));
+const whole = stack.value;
+for (let more = 0; more < 20; more++) {
+    deeper(more, () => marks(letter));
 }
 assert.deepEqual(line(EASTER), { ...easter, start: 0, length: 6 });
+assert.equal(stack.value, whole);
 assert.equal(marks(letter).marks.length, 3);
 
 // An answer stays as it is when another call is made, of the same library or of another.
