@@ -1,6 +1,5 @@
 /* Reads lines from standard input, joins them to pages of 500 lines, and prints for each page what the two calls on it answer: REFUSAL
-   COUNT, and NUMBER for each line. A page has fewer lines where the next would make it too long, and the last has those that are left. A
-   line that is too long for any page is one by itself, and is refused as such. */
+   COUNT, and NUMBER for each line. A page has fewer lines where the next would make it too long, and the last has those that are left. */
 #define _DEFAULT_SOURCE /* for getline */
 #include "qashmelvit.h"
 
@@ -30,13 +29,10 @@ static void answer_page(void)
 /* The line's bytes are counted with its line feed. */
 static void add_line(const char *line, size_t bytes)
 {
+    if (bytes > LONGEST)
+        stop("a line is longer than any page");
     if (lines == LINES || bytes > LONGEST - length)
         answer_page();
-    if (bytes > LONGEST) {
-        if (answer_text((const uint8_t *)line, bytes, PLACE) != 0)
-            stop("a line that is too long for any page is taken as one");
-        return;
-    }
     memcpy(page + length, line, bytes);
     length += bytes;
     lines++;
