@@ -34,7 +34,8 @@ usage: second cases < LINES             compares lines 'CALL NUMBERS: ANSWER' wi
        second marks < CASES             prints 'REFUSAL COUNT' and for each mark ' START END FIRST PAST NUMBER'
        second datemarks < TRANSCRIPT    prints for a transcript what the program datemarks must print
        second transcripts               prints cases 'SIZE: PIECE PIECE ..' of transcripts, good and bad
-       second transcript N < CASES      writes the bytes of the Nth case's transcript
+       second files N FOLDER < CASES    writes each Nth case's transcript to FOLDER/NUMBER, and what datemarks must print
+                                        for it to FOLDER/NUMBER.wanted
        second pages < CASES             prints 'REFUSAL COUNT' and for each line ' NUMBER'
        second page_cases                prints cases 'SIZE: PIECE PIECE ..' of pages of lines, good and bad
        second sample WHAT               prints of the lines, pages or transcripts how many there are of each kind, and the
@@ -56,7 +57,7 @@ fn main() -> ExitCode {
         ["marks"] => pieces::answer(lines, marks::answered),
         ["datemarks"] => marks::run(lines),
         ["transcripts"] => transcripts::print(),
-        ["transcript", number] => pieces::write(number, lines),
+        ["files", step, folder] => pieces::write_files(step, folder, lines, marks::program_output),
         ["pages"] => pieces::answer(lines, pages::answered),
         ["page_cases"] => page_cases::print(),
         ["sample", "lines"] => corpus::sample(),

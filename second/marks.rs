@@ -72,17 +72,21 @@ pub fn answered(case: &Case) -> String {
     placed(marks(&transcript), case.size / PLACE, |mark| format!("{} {}", ends(mark), number(mark)))
 }
 
-/// Prints for a transcript what the program must print: a line for each mark, or the refusal's number alone.
-pub fn run(mut input: impl Read) -> ExitCode {
-    let mut transcript = vec![];
-    input.read_to_end(&mut transcript).expect("the transcript can be read");
-    let text: String = match marks(&transcript) {
+/// What the program must print for a transcript: a line for each mark, or the refusal's number alone.
+pub fn program_output(transcript: &[u8]) -> String {
+    match marks(transcript) {
         Ok(marks) => {
             let line = |mark: &Mark| format!("{} {}\n", ends(mark), printed(&transcript[mark.bytes.clone()]));
             marks.iter().map(line).collect()
         }
         Err(refusal) => format!("{refusal}\n"),
-    };
-    std::io::stdout().write_all(text.as_bytes()).expect("the answers can be printed");
+    }
+}
+
+/// Prints what the program must print for the transcript that is read.
+pub fn run(mut input: impl Read) -> ExitCode {
+    let mut transcript = vec![];
+    input.read_to_end(&mut transcript).expect("the transcript can be read");
+    std::io::stdout().write_all(program_output(&transcript).as_bytes()).expect("the answers can be printed");
     ExitCode::SUCCESS
 }

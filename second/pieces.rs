@@ -3,6 +3,7 @@
 
 use crate::days::Answer;
 use std::fmt;
+use std::fs;
 use std::io::{BufRead, BufWriter, Write};
 use std::process::ExitCode;
 
@@ -80,17 +81,15 @@ pub fn answer(cases: impl BufRead, answered: fn(&Case) -> String) -> ExitCode {
     ExitCode::SUCCESS
 }
 
-/// Writes the bytes of the text of the case with this number, from 1 on.
-pub fn write(number: &str, cases: impl BufRead) -> ExitCode {
-    let before = number.parse::<usize>().ok().and_then(|number| number.checked_sub(1));
-    match before.and_then(|before| cases.lines().nth(before)) {
-        Some(line) => {
-            std::io::stdout().write_all(&case(line).text()).expect("the text can be written");
-            ExitCode::SUCCESS
-        }
-        None => {
-            eprintln!("second: there is no case {number}");
-            ExitCode::FAILURE
-        }
+/// Writes the text of each `step`th case, from the first on, to FOLDER/NUMBER, and what a program must print for it to
+/// FOLDER/NUMBER.wanted.
+pub fn write_files(step: &str, folder: &str, cases: impl BufRead, program_output: fn(&[u8]) -> String) -> ExitCode {
+    let step = step.parse().expect("the step is a number");
+    for (before, line) in cases.lines().enumerate().step_by(step) {
+        let text = case(line).text();
+        let file = format!("{folder}/{}", before + 1);
+        fs::write(format!("{file}.wanted"), program_output(&text)).expect("the answers can be written");
+        fs::write(file, text).expect("the text can be written");
     }
+    ExitCode::SUCCESS
 }
