@@ -34,6 +34,8 @@ tests: kit tools
 	tests/web/run
 	tests/program
 	tests/marks
+	tests/pieces
+	tests/memory
 	tests/building
 	@$(MAKE) --no-print-directory placed
 
