@@ -1,5 +1,5 @@
 .POSIX:
-.PHONY: help check tests placed answers lib wasm bench install uninstall prefix kit tools
+.PHONY: help check tests compared placed answers lib wasm man bench install uninstall prefix kit tools
 .NOTPARALLEL:
 
 PREFIX = /usr/local
@@ -17,12 +17,14 @@ help:
 ## make check      proves everything, tries the refused edits and runs all tests; the last line is 'N passed, 0 failed'
 check: kit tools
 	tests/gate prove
-	@$(MAKE) --no-print-directory tests
+	@$(MAKE) --no-print-directory compared placed
 	tests/anywhere
 	tests/gate verdict
 
 ## make tests      runs the tests alone, over what they build
-tests: kit tools
+tests: kit tools compared placed
+
+compared:
 	tests/compare
 	tests/header
 	tests/prototypes
@@ -37,7 +39,6 @@ tests: kit tools
 	tests/pieces
 	tests/memory
 	tests/building
-	@$(MAKE) --no-print-directory placed
 
 # The tests that depend on the folder's path, the environment or how make is called.
 placed:
@@ -47,20 +48,24 @@ placed:
 	tests/sessions
 
 ## make answers    prints the worked calls with their answers
-answers:
+answers: kit
 	@build/run days_cases </dev/null
 	@build/run church_cases <crates/church_cases/stdin
 
 ## make lib        builds the archive for C programs, target/staticlib/libqashmelvit.a
-lib:
+lib: kit
 	build/crate qashmelvit
 
 ## make wasm       fills target/wasm with the build for browsers
-wasm:
+wasm: kit
 	web/build
 
+## make man        writes the manual pages to target/man
+man:
+	packaging/manual
+
 ## make bench      measures the calls, the program and plain Rust beside them
-bench:
+bench: kit
 	bench/run
 
 ## make install    installs header, archive, programs and manual pages below DESTDIR and PREFIX, by default /usr/local
