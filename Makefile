@@ -12,7 +12,7 @@ export QV_DESTDIR := $(value DESTDIR)
 
 help:
 	@sed -n 's/^## //p' Makefile
-	@build/kit || :
+	@command -v rt >/dev/null || build/kit || :
 
 ## make check      proves everything, tries the refused edits and runs all tests; the last line is 'N passed, 0 failed'
 check: kit tools
