@@ -60,7 +60,7 @@ lib: kit
 wasm: kit
 	web/build
 
-## make man        writes the manual pages to target/man
+## make man        writes the manual pages, for man -M target/man qv_line
 man:
 	packaging/manual
 
